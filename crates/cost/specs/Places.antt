@@ -1,0 +1,26 @@
+-- The first place at which a condition holds, and the answer of a call that one of several conditions may refuse.
+use mathlib.Core.Bool.{Bool, cond}
+use Prim.Native.Nat.{ℕ, zero, suc, _+_}
+use Rattle.std.specs.declared.option.Option.{Option}
+use Rattle.std.specs.declared.option.Option.the-variants.{Some, None}
+use Rattle.std.specs.declared.result.Result.{Result}
+use Rattle.std.specs.declared.result.Result.the-variants.{Ok, Err}
+
+-- The first of `more` indices from `k` on that passes the test, counted from 1.
+abbrev pub first-place-from : (ℕ → Bool) → ℕ → ℕ → Option ℕ
+first-place-from test k zero = None
+first-place-from test k (suc more) = cond (test k) (Some (k + 1)) (first-place-from test (k + 1) more)
+
+-- The first of the indices below `n` that passes the test, counted from 1.
+abbrev pub first-place : (ℕ → Bool) → ℕ → Option ℕ
+first-place test n = first-place-from test 0 n
+
+-- The upper of two conditions: the first, or else the second.
+abbrev pub or-else : {F : Type 0} → Option F → Option F → Option F
+or-else (Some f) other = Some f
+or-else None other = other
+
+-- What a call answers: its refusal where there is one, else the value.
+abbrev pub unless : {T F : Type 0} → Option F → T → Result T F
+unless (Some f) value = Err f
+unless None value = Ok value
