@@ -23,6 +23,11 @@ empty-cost = record { first = 0; opening = pos 0; increments = [] }
 abbrev pub last : Meaning → ℕ
 last m = m .first + length (m .increments)
 
+-- A whole number as a count: nothing where it is negative.
+abbrev pub natural : ℤ → ℕ
+natural (pos n) = n
+natural (negsuc n) = 0
+
 -- The sum of a list.
 abbrev pub total : List ℤ → ℤ
 total [] = pos 0
@@ -48,6 +53,10 @@ increment-at m x = cond (leZ (pos (m .first)) x) (nth (m .increments) (beyond m 
 abbrev pub Between : ℤ → ℤ → ℤ → Type 0
 Between low high x = (low ≤ℤ x) × (x ≤ℤ high)
 
+-- Each number of the list lies from `low` to `high`.
+abbrev pub All-between : ℤ → ℤ → List ℤ → Type 0
+All-between low high xs = (k : ℕ) → k < length xs → Between low high (getD xs k (pos 0))
+
 -- No number of the list is smaller than the one before it.
 abbrev pub Rising : List ℤ → Type 0
 Rising xs = (k : ℕ) → k + 1 < length xs → getD xs k (pos 0) ≤ℤ getD xs (k + 1) (pos 0)
@@ -56,5 +65,5 @@ Rising xs = (k : ℕ) → k + 1 < length xs → getD xs k (pos 0) ≤ℤ getD xs
 pub record Lawful (m : Meaning) : Type 0 where
   pub last-limit : last m ≤ 10000
   pub opening-limit : Between (negsuc 999999999) (pos 1000000000) (m .opening)
-  pub increment-limit : (k : ℕ) → k < length (m .increments) → Between (negsuc 999999) (pos 1000000) (getD (m .increments) k (pos 0))
+  pub increment-limit : All-between (negsuc 999999) (pos 1000000) (m .increments)
   pub convex : Rising (m .increments)

@@ -24,3 +24,8 @@ or-else None other = other
 abbrev pub unless : {T F : Type 0} → Option F → T → Result T F
 unless (Some f) value = Err f
 unless None value = Ok value
+
+-- A content that its constructor would refuse stands for something simpler in its place.
+abbrev pub kept-or : {T F : Type 0} → T → Option F → T → T
+kept-or other (Some f) value = other
+kept-or other None value = value

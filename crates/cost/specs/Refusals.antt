@@ -8,6 +8,7 @@ use Rattle.cost.specs.declared.refusals.Layer.{Layer}
 use Rattle.cost.specs.declared.refusals.Layer.the-variants.{Cost, Draft, Sheet, Record}
 use Rattle.cost.specs.declared.refusals.Refusal.{Refusal}
 
+-- A refusal by its three parts.
 abbrev pub refusal : ℕ → ℕ → Layer → Refusal
 refusal number place layer = record { number = number; place = place; layer = layer }
 
@@ -15,6 +16,7 @@ refusal number place layer = record { number = number; place = place; layer = la
 abbrev pub number-refusal : Layer → NumberFault → Refusal
 number-refusal layer (Outside position) = refusal 3 position layer
 
+-- Every refusal of a cost is in the layer of costs.
 abbrev pub cost-refusal : CostFault → Refusal
 cost-refusal Pieces = refusal 1 0 Cost
 cost-refusal (Number fault) = number-refusal Cost fault

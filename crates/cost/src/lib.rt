@@ -1,8 +1,11 @@
 // What an arc of the network charges for its load.
 //
 // `numbers` has the limits of every number that is handed over, `refusals` what a refused call answers, `costs` the
-// trait that every kind of cost keeps.
+// trait that every kind of cost keeps. The kinds are `stepped`, `quadratic` and, over any other cost, `layers`.
 
-pub mod numbers;
-pub mod refusals;
 pub mod costs;
+pub mod layers;
+pub mod numbers;
+pub mod quadratic;
+pub mod refusals;
+pub mod stepped;

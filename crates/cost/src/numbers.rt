@@ -1,7 +1,9 @@
 // Numbers that are handed over, and the limits within which they must lie.
 ghost use mathlib.Core.Path.{_≡_};
-ghost use Rattle.cost.specs.Limits.{outside, outside-each};
-ghost use Rattle.cost.specs.Places.{unless};
+ghost use Prim.Native.Nat.{_+_, _^_, _<_};
+ghost use lib.ListN.{length};
+ghost use Rattle.cost.specs.Limits.{within, outside, first-outside, outside-each};
+ghost use Rattle.std.specs.Results.{errPart};
 
 // The lowest and the highest number that is accepted.
 #[derive(Clone, Copy, Debug)]
@@ -23,13 +25,44 @@ pub const INCREMENTS: Limits = Limits { low: -1_000_000, high: 1_000_000 };
 pub const SQUARES: Limits = Limits { low: 0, high: 1_000_000 };
 
 impl Limits {
+    // The number lies within the limits, both ends included.
+    pub fn contain(self, number: i64) -> bool
+        ensures { λ r. ⌜ r ≡ within self number ⌝ }
+    {
+        self.low <= number && number <= self.high
+    }
+
     // Refuses a number outside the limits.
     pub fn check(self, number: i64, position: usize) -> Result<(), NumberFault>
-        ensures { λ r. ⌜ r ≡ unless (outside self position number) tt ⌝ }
+        ensures { λ r. ⌜ errPart r ≡ outside self position number ⌝ }
     {
-        if number < self.low || number > self.high {
-            return Err(NumberFault::Outside(position));
+        if self.contain(number) {
+            Ok(())
+        } else {
+            Err(NumberFault::Outside(position))
         }
-        Ok(())
+    }
+
+    // The place, from 1, of the first number of a list outside the limits.
+    pub fn first_outside(self, numbers: &[i64]) -> Option<usize>
+        ensures { λ r. ⌜ r ≡ first-outside self (now (numbers .entry)) ⌝ }
+    {
+        for (k, number) in numbers.iter().enumerate() {
+            if !self.contain(*number) {
+                return Some(k + 1);
+            }
+        }
+        None
+    }
+
+    // Refuses the first number of a list outside the limits; `before` numbers of the call stand before the list.
+    pub(crate) fn check_each(self, numbers: &[i64], before: usize) -> Result<(), NumberFault>
+        requires { ⌜ before + length (now numbers) < 2 ^ 64 ⌝ }
+        ensures { λ r. ⌜ errPart r ≡ outside-each self before (now (numbers .entry)) ⌝ }
+    {
+        match self.first_outside(numbers) {
+            Some(place) => Err(NumberFault::Outside(before + place)),
+            None => Ok(()),
+        }
     }
 }

@@ -1,0 +1,6 @@
+pub mod FirstPlace
+pub mod Lists
+pub mod Over
+pub mod Pieces
+pub mod Refusing
+pub mod Squares

@@ -1,0 +1,130 @@
+// The stepped cost: pieces of so many requests each, at one increment a piece.
+ghost use mathlib.Core.Path.{_≡_};
+ghost use mathlib.Core.Bool.{not};
+ghost use Prim.Native.Nat.{_≤_, min};
+ghost use lib.ListN.{length, take};
+ghost use lib.IntN.{pos};
+ghost use Rattle.std.specs.Finite.{nth};
+ghost use Rattle.std.specs.Options.{isSome, mapped};
+ghost use Rattle.std.specs.Results.{errPart};
+ghost use Rattle.std.specs.Vec.{made};
+ghost use Rattle.std.specs.declared.option.Option.the-variants.{None};
+ghost use Rattle.cost.specs.Meaning.{natural, Between, All-between};
+ghost use Rattle.cost.specs.Places.{first-place, unless};
+ghost use Rattle.cost.specs.Stepped.{falling, padded, slopes-of, spread, stepped-content, stepped-meaning, stepped-of, stepped-outside, stepped-refusal, too-long, widths-of};
+ghost use Rattle.cost.specs.declared.refusals.CostFault.the-variants.{Long, Falls};
+use crate::costs::Cost;
+use crate::numbers::INCREMENTS;
+use crate::numbers::LOADS;
+use crate::numbers::NumberFault;
+use crate::numbers::OPENINGS;
+use crate::numbers::WIDTHS;
+use crate::refusals::CostFault;
+use crate::refusals::CostFaultFromNumber;
+
+pub const MOST_PIECES: usize = 8;
+
+// Any content is a cost; one that `new` would refuse means the empty cost. Of the widths and slopes the first `count` count.
+#[derive(Clone, Copy, Debug, PartialEq, Eq)]
+pub struct Stepped {
+    pub first: i64,
+    pub opening: i64,
+    pub count: usize,
+    pub widths: [i64; MOST_PIECES],
+    pub slopes: [i64; MOST_PIECES],
+}
+
+// Refuses the first number outside its limits.
+fn check_numbers(first: i64, opening: i64, widths: &[i64], slopes: &[i64]) -> Result<(), NumberFault>
+    requires { ⌜ length (now widths) ≤ 8 ⌝ ∗ ⌜ length (now slopes) ≤ 8 ⌝ }
+    ensures { λ r. ⌜ errPart r ≡ stepped-outside first opening (now (widths .entry)) (now (slopes .entry)) ⌝ }
+{
+    LOADS.check(first, 1)?;
+    OPENINGS.check(opening, 2)?;
+    WIDTHS.check_each(widths, 2)?;
+    INCREMENTS.check_each(slopes, 2 + widths.len())
+}
+
+// Refuses the first piece at which the first load and the widths pass the limit of a load.
+fn check_length(first: i64, widths: &[i64]) -> Result<(), CostFault>
+    requires { ⌜ Between (pos 0) (pos 10000) first ⌝ ∗ ⌜ All-between (pos 1) (pos 10000) (now widths) ⌝ }
+    ensures { λ r. ⌜ errPart r ≡ mapped Long (first-place (too-long first (now (widths .entry))) (length (now (widths .entry)))) ⌝ }
+{
+    let mut last = first;
+    for (k, width) in widths.iter().enumerate() {
+        last += *width;
+        if last > LOADS.high {
+            return Err(CostFault::Long(k + 1));
+        }
+    }
+    Ok(())
+}
+
+// Refuses the first piece whose slope lies below the one before.
+fn check_rising(slopes: &[i64]) -> Result<(), CostFault>
+    ensures { λ r. ⌜ errPart r ≡ mapped Falls (first-place (falling (now (slopes .entry))) (length (now (slopes .entry)))) ⌝ }
+{
+    for (k, slope) in slopes.iter().enumerate() {
+        if k > 0 && *slope < slopes[k - 1] {
+            return Err(CostFault::Falls(k + 1));
+        }
+    }
+    Ok(())
+}
+
+// Numbers in an array of eight, with 0 behind them.
+fn padded_to_eight(numbers: &[i64]) -> [i64; MOST_PIECES]
+    requires { ⌜ length (now numbers) ≤ 8 ⌝ }
+    ensures { λ r. ⌜ r ≡ padded (now (numbers .entry)) ⌝ }
+{
+    let mut row = [0; MOST_PIECES];
+    for (k, number) in numbers.iter().enumerate() {
+        row[k] = *number;
+    }
+    row
+}
+
+impl Stepped {
+    // Refuses what no stepped cost is made of.
+    fn check(first: i64, opening: i64, widths: &[i64], slopes: &[i64]) -> Result<(), CostFault>
+        ensures { λ r. ⌜ errPart r ≡ stepped-refusal first opening (now (widths .entry)) (now (slopes .entry)) ⌝ }
+    {
+        if widths.len() != slopes.len() || widths.len() > MOST_PIECES {
+            return Err(CostFault::Pieces);
+        }
+        check_numbers(first, opening, widths, slopes)?;
+        check_length(first, widths)?;
+        check_rising(slopes)
+    }
+
+    pub fn new(first: i64, opening: i64, widths: &[i64], slopes: &[i64]) -> Result<Stepped, CostFault>
+        ensures answer { λ r. ⌜ r ≡ unless (stepped-refusal first opening (now (widths .entry)) (now (slopes .entry))) (stepped-of first opening (now (widths .entry)) (now (slopes .entry))) ⌝ }
+        ensures means { λ r. ⌜ made r (λ c. stepped-content c ≡ stepped-meaning first opening (now (widths .entry)) (now (slopes .entry))) ⌝ }
+    {
+        Stepped::check(first, opening, widths, slopes)?;
+        Ok(Stepped {
+            first,
+            opening,
+            count: widths.len(),
+            widths: padded_to_eight(widths),
+            slopes: padded_to_eight(slopes),
+        })
+    }
+
+    // The widths and the slopes of the pieces that count.
+    fn pieces(&self) -> (&[i64], &[i64])
+        ensures widths { λ r. ⌜ now (r .0) ≡ widths-of (now (self .entry)) ⌝ }
+        ensures slopes { λ r. ⌜ now (r .1) ≡ slopes-of (now (self .entry)) ⌝ }
+    {
+        let count = self.count.min(MOST_PIECES);
+        (&self.widths[0..count], &self.slopes[0..count])
+    }
+
+    // The content is one that `new` makes.
+    fn is_made(&self) -> bool
+        ensures { λ r. ⌜ r ≡ not (isSome (stepped-refusal (now (self .entry) .first) (now (self .entry) .opening) (widths-of (now (self .entry))) (slopes-of (now (self .entry))))) ⌝ }
+    {
+        let (widths, slopes) = self.pieces();
+        Stepped::check(self.first, self.opening, widths, slopes).is_ok()
+    }
+}
