@@ -4,12 +4,13 @@ ghost use mathlib.Core.Bool.{not};
 ghost use Prim.Native.Nat.{_≤_, min};
 ghost use lib.ListN.{length, take};
 ghost use lib.IntN.{pos};
+ghost use lib.Signed.{_≤ℤ_};
 ghost use Rattle.std.specs.Finite.{nth};
 ghost use Rattle.std.specs.Options.{isSome, mapped};
 ghost use Rattle.std.specs.Results.{errPart};
 ghost use Rattle.std.specs.Vec.{made};
 ghost use Rattle.std.specs.declared.option.Option.the-variants.{None};
-ghost use Rattle.cost.specs.Meaning.{natural, Between, All-between};
+ghost use Rattle.cost.specs.Meaning.{natural, total, Between, All-between};
 ghost use Rattle.cost.specs.Places.{first-place, unless};
 ghost use Rattle.cost.specs.Stepped.{falling, padded, slopes-of, spread, stepped-content, stepped-meaning, stepped-of, stepped-outside, stepped-refusal, too-long, widths-of};
 ghost use Rattle.cost.specs.declared.refusals.CostFault.the-variants.{Long, Falls};
@@ -84,6 +85,33 @@ fn padded_to_eight(numbers: &[i64]) -> [i64; MOST_PIECES]
     row
 }
 
+// The sum of the widths.
+fn sum_of(widths: &[i64]) -> i64
+    requires { ⌜ length (now widths) ≤ 8 ⌝ ∗ ⌜ All-between (pos 1) (pos 10000) (now widths) ⌝ }
+    ensures { λ r. ⌜ r ≡ total (now (widths .entry)) ⌝ }
+{
+    let mut sum = 0;
+    for width in widths {
+        sum += *width;
+    }
+    sum
+}
+
+// The increment after `beyond` requests: the slope of the piece in which it lies.
+fn slope_at(widths: &[i64], slopes: &[i64], beyond: i64) -> Option<i64>
+    requires { ⌜ length (now widths) ≡ length (now slopes) ⌝ ∗ ⌜ All-between (pos 1) (pos 10000) (now widths) ⌝ ∗ ⌜ pos 0 ≤ℤ beyond ⌝ }
+    ensures { λ r. ⌜ r ≡ nth (spread (now (widths .entry)) (now (slopes .entry))) (natural beyond) ⌝ }
+{
+    let mut left = beyond;
+    for (k, width) in widths.iter().enumerate() {
+        if left < *width {
+            return Some(slopes[k]);
+        }
+        left -= *width;
+    }
+    None
+}
+
 impl Stepped {
     // Refuses what no stepped cost is made of.
     fn check(first: i64, opening: i64, widths: &[i64], slopes: &[i64]) -> Result<(), CostFault>
@@ -126,5 +154,33 @@ impl Stepped {
     {
         let (widths, slopes) = self.pieces();
         Stepped::check(self.first, self.opening, widths, slopes).is_ok()
+    }
+}
+
+pub impl Cost for Stepped as SteppedCost {
+    ghost meaning = { stepped-content };
+
+    fn first_load(&self) -> i64 {
+        if self.is_made() { self.first } else { 0 }
+    }
+
+    fn last_load(&self) -> i64 {
+        if !self.is_made() {
+            return 0;
+        }
+        let (widths, _) = self.pieces();
+        self.first + sum_of(widths)
+    }
+
+    fn opening_amount(&self) -> i64 {
+        if self.is_made() { self.opening } else { 0 }
+    }
+
+    fn increment_at(&self, load: i64) -> Option<i64> {
+        if !self.is_made() || load < self.first {
+            return None;
+        }
+        let (widths, slopes) = self.pieces();
+        slope_at(widths, slopes, load - self.first)
     }
 }
