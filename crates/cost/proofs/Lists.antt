@@ -3,6 +3,7 @@ use mathlib.Core.Path.{_≡_, refl, sym, _∙_, ap}
 use mathlib.Core.List.{List, [], _∷_, _++_, map}
 use mathlib.Core.Bool.{Bool, true, false, cond}
 use Prim.Native.Nat.{ℕ, zero, suc, _+_, _-_, _≤_, _<_, min}
+use native.Mathlib.Decide.{decLe}
 use native.Mathlib.Numerals.{add-one}
 use native.Mathlib.Omega.{arith}
 use lib.ListN.{length, getD, take, drop, replicate, length-replicate}
@@ -14,10 +15,21 @@ use Rattle.std.specs.Iters.{counting}
 use Rattle.std.specs.Options.{mapped}
 use Rattle.std.specs.declared.option.Option.{Option}
 use Rattle.std.specs.declared.option.Option.the-variants.{Some, None}
+use Rattle.std.proofs.shelf.Lists.{take-all}
 use Rattle.std.proofs.shelf.Maps.{nth-getD, nth-past}
 use Rattle.std.proofs.shelf.Counted.{length-map-counting, getD-map-counting}
 use Rattle.std.proofs.shelf.Signed.{ints}
 use Rattle.cost.specs.Meaning.{Meaning, natural, total, beyond, last, increment-at, Rising, Lawful, empty-cost}
+
+by-le : {P : Type 0} (m n : ℕ) → (m ≤ n → P) → (n < m → P) → P
+by-le m n low high = elim (decLe m n) [ yes p ↦ low p | no q ↦ high (omega arith) ]
+
+-- a front that is cut at the length of the whole
+pub take-within : {X : Type 0} (n k : ℕ) (xs : List X) → length xs ≡ k → take (min n k) xs ≡ take n xs
+take-within n k xs e =
+    by-le n k
+    (λ low. ap (λ (j : ℕ). take j xs) (omega arith))
+    (λ high. take-all (min n k) xs (omega arith) ∙ sym (take-all n xs (omega arith)))
 
 -- a count of a whole number, for `omega`
 pub natural-is : (z : ℤ) → natural z ≡ up z - down z

@@ -4,7 +4,6 @@ use mathlib.Core.List.{List, [], _∷_, _++_}
 use mathlib.Core.Bool.{Bool, true, false, cond, not, _&&_}
 use Prim.Native.Nat.{ℕ, zero, suc, _+_, _-_, _≤_, _<_, min}
 use native.Mathlib.Numerals.{add-one}
-use native.Mathlib.Decide.{decLe}
 use native.Mathlib.Omega.{arith}
 use lib.Dec.{eqb, leb, ltb}
 use lib.ListN.{length, getD, set, take, drop, replicate}
@@ -27,9 +26,6 @@ use Rattle.cost.specs.declared.stepped.Stepped.{Stepped}
 use Rattle.cost.proofs.FirstPlace.{first-place-never}
 use Rattle.cost.proofs.Lists.{natural-is, nth-repeated, nth-past-repeated, total-more, increment-past, increment-under, increment-here, increment-empty, empty-lawful}
 use Rattle.cost.proofs.Refusing.{neither, none-below, passed, both, not-both, inside, all-inside, no-refusal, replaced}
-
-by-le : {P : Type 0} (m n : ℕ) → (m ≤ n → P) → (n < m → P) → P
-by-le m n low high = elim (decLe m n) [ yes p ↦ low p | no q ↦ high (omega arith) ]
 
 -- what the numbers of a stepped cost keep that are all within their limits
 pub record Fit (first opening : ℤ) (ws ss : List ℤ) : Type 0 where
@@ -86,12 +82,6 @@ padded-more xs k h few′ =
     ap (λ (n : ℕ). set (take k xs ++ replicate n (pos 0)) k (getD xs k (pos 0))) rest
     ∙ set-at (take k xs) (pos 0) (replicate (8 - (k + 1)) (pos 0)) (getD xs k (pos 0)) k front
     ∙ sym (ap (λ (ys : List ℤ). ys ++ replicate (8 - (k + 1)) (pos 0)) (take-more xs k (pos 0) h) ∙ append-assoc (take k xs) (getD xs k (pos 0) ∷ []) (replicate (8 - (k + 1)) (pos 0)))
-
--- all that an array of eight has
-pub take-of-eight : (n : ℕ) (xs : List ℤ) → length xs ≡ 8 → take (min n 8) xs ≡ take n xs
-take-of-eight n xs e = by-le n 8
-    (λ low. ap (λ (k : ℕ). take k xs) (omega arith))
-    (λ high. take-all (min n 8) xs (omega arith) ∙ sym (take-all n xs (omega arith)))
 
 -- the pieces of a made content are those that were given
 pub front-of-padded : (n : ℕ) (xs : List ℤ) → n ≡ length xs → take n (padded xs) ≡ xs

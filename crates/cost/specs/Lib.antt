@@ -5,3 +5,4 @@ pub mod Refusals
 pub mod Stepped
 pub mod Quadratic
 pub mod Layers
+pub mod Rows

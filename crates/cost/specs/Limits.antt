@@ -49,3 +49,7 @@ increment-limits = from-to (negsuc 999999) (pos 1000000)
 -- The number b of a quadratic cost.
 abbrev pub square-limits : Limits
 square-limits = from-to (pos 0) (pos 1000000)
+
+-- The number of pieces of a stepped cost.
+abbrev pub count-limits : Limits
+count-limits = from-to (pos 0) (pos 8)

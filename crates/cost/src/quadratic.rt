@@ -9,6 +9,7 @@ ghost use Rattle.std.specs.declared.option.Option.the-variants.{None};
 ghost use Rattle.cost.specs.Places.{unless};
 ghost use Rattle.cost.specs.Meaning.{Between};
 ghost use Rattle.cost.specs.Quadratic.{quadratic-increment, quadratic-outside, steep, quadratic-refusal, quadratic-meaning, quadratic-content};
+ghost use Rattle.cost.specs.Rows.{quadratic-length, quadratic-row, quadratic-row-meaning, quadratic-row-refusal};
 use crate::costs::Cost;
 use crate::numbers::INCREMENTS;
 use crate::numbers::LOADS;
@@ -16,6 +17,8 @@ use crate::numbers::NumberFault;
 use crate::numbers::SQUARES;
 use crate::refusals::CostFault;
 use crate::refusals::CostFaultFromNumber;
+use crate::written::Row;
+use crate::written::Written;
 
 // Any three numbers are a content; those that `new` would refuse mean the empty cost.
 #[derive(Clone, Copy, Debug, PartialEq, Eq)]
@@ -62,6 +65,17 @@ impl Quadratic {
         Ok(Quadratic { a, b, c })
     }
 
+    // The cost of a row: a, b and c.
+    fn of_row(numbers: &[i64]) -> Result<Quadratic, CostFault>
+        ensures answer { λ r. ⌜ errPart r ≡ quadratic-row-refusal (now (numbers .entry)) ⌝ }
+        ensures filled { λ r. ⌜ made r (λ q. (quadratic-row q ≡ now (numbers .entry)) × (quadratic-content q ≡ quadratic-row-meaning (now (numbers .entry)))) ⌝ }
+    {
+        match numbers {
+            [a, b, c] => Quadratic::new(*a, *b, *c),
+            _ => Err(CostFault::Pieces),
+        }
+    }
+
     // The content is one that `new` makes.
     fn is_made(self) -> bool
         ensures { λ r. ⌜ r ≡ not (isSome (quadratic-refusal (self .a) (self .b) (self .c))) ⌝ }
@@ -91,5 +105,42 @@ pub impl Cost for Quadratic as QuadraticCost {
         } else {
             None
         }
+    }
+}
+
+pub impl Written for Quadratic as QuadraticWritten {
+    const LETTER: char = 'Q';
+
+    ghost sign = { 81 };
+
+    ghost long = { quadratic-length };
+
+    ghost refuses = { quadratic-row-refusal };
+
+    ghost means = { quadratic-row-meaning };
+
+    ghost row = { quadratic-row };
+
+    fn sign() -> char {
+        Self::LETTER
+    }
+
+    fn row_length(_first: i64) -> Option<usize> {
+        Some(3)
+    }
+
+    fn fill(&mut self, numbers: &[i64]) -> Result<(), CostFault> {
+        *self = Quadratic::of_row(numbers)?;
+        Ok(())
+    }
+
+    fn row(&self) -> Row {
+        let mut row = Row::empty();
+        if self.is_made() {
+            row.extend(&[self.a, self.b, self.c]);
+        } else {
+            row.extend(&[0, 0, 0]);
+        }
+        row
     }
 }

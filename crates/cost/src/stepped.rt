@@ -1,20 +1,22 @@
 // The stepped cost: pieces of so many requests each, at one increment a piece.
 ghost use mathlib.Core.Path.{_≡_};
-ghost use mathlib.Core.Bool.{not};
+ghost use mathlib.Core.Bool.{cond, not};
 ghost use Prim.Native.Nat.{_≤_, min};
-ghost use lib.ListN.{length, take};
+ghost use lib.ListN.{length, getD};
 ghost use lib.IntN.{pos};
 ghost use lib.Signed.{_≤ℤ_};
 ghost use Rattle.std.specs.Finite.{nth};
 ghost use Rattle.std.specs.Options.{isSome, mapped};
 ghost use Rattle.std.specs.Results.{errPart};
 ghost use Rattle.std.specs.Vec.{made};
-ghost use Rattle.std.specs.declared.option.Option.the-variants.{None};
+ghost use Rattle.std.specs.declared.option.Option.the-variants.{Some, None};
 ghost use Rattle.cost.specs.Meaning.{natural, total, Between, All-between};
 ghost use Rattle.cost.specs.Places.{first-place, unless};
+ghost use Rattle.cost.specs.Rows.{stepped-length, stepped-row, stepped-row-meaning, stepped-row-refusal, whole-row};
 ghost use Rattle.cost.specs.Stepped.{falling, padded, slopes-of, spread, stepped-content, stepped-meaning, stepped-of, stepped-outside, stepped-refusal, too-long, widths-of};
 ghost use Rattle.cost.specs.declared.refusals.CostFault.the-variants.{Long, Falls};
 use crate::costs::Cost;
+use crate::numbers::COUNTS;
 use crate::numbers::INCREMENTS;
 use crate::numbers::LOADS;
 use crate::numbers::NumberFault;
@@ -22,6 +24,8 @@ use crate::numbers::OPENINGS;
 use crate::numbers::WIDTHS;
 use crate::refusals::CostFault;
 use crate::refusals::CostFaultFromNumber;
+use crate::written::Row;
+use crate::written::Written;
 
 pub const MOST_PIECES: usize = 8;
 
@@ -112,6 +116,18 @@ fn slope_at(widths: &[i64], slopes: &[i64], beyond: i64) -> Option<i64>
     None
 }
 
+// The count of pieces of a row that is as long as it tells.
+fn count_of(numbers: &[i64]) -> Option<usize>
+    ensures { λ r. ⌜ r ≡ cond (whole-row stepped-length (now (numbers .entry))) (Some (natural (getD (now (numbers .entry)) 0 (pos 0)))) None ⌝ }
+{
+    let count = *numbers.first()?;
+    if COUNTS.contain(count) && numbers.len() == 3 + 2 * count as usize {
+        Some(count as usize)
+    } else {
+        None
+    }
+}
+
 impl Stepped {
     // Refuses what no stepped cost is made of.
     fn check(first: i64, opening: i64, widths: &[i64], slopes: &[i64]) -> Result<(), CostFault>
@@ -137,6 +153,18 @@ impl Stepped {
             widths: padded_to_eight(widths),
             slopes: padded_to_eight(slopes),
         })
+    }
+
+    // The cost of a row: the count of pieces, the first load, the opening amount, the widths and the slopes.
+    fn of_row(numbers: &[i64]) -> Result<Stepped, CostFault>
+        ensures answer { λ r. ⌜ errPart r ≡ stepped-row-refusal (now (numbers .entry)) ⌝ }
+        ensures filled { λ r. ⌜ made r (λ c. (stepped-row c ≡ now (numbers .entry)) × (stepped-content c ≡ stepped-row-meaning (now (numbers .entry)))) ⌝ }
+    {
+        let Some(count) = count_of(numbers) else {
+            return Err(CostFault::Pieces);
+        };
+        let (widths, slopes) = numbers[3..].split_at(count);
+        Stepped::new(numbers[1], numbers[2], widths, slopes)
     }
 
     // The widths and the slopes of the pieces that count.
@@ -182,5 +210,49 @@ pub impl Cost for Stepped as SteppedCost {
         }
         let (widths, slopes) = self.pieces();
         slope_at(widths, slopes, load - self.first)
+    }
+}
+
+pub impl Written for Stepped as SteppedWritten {
+    const LETTER: char = 'S';
+
+    ghost sign = { 83 };
+
+    ghost long = { stepped-length };
+
+    ghost refuses = { stepped-row-refusal };
+
+    ghost means = { stepped-row-meaning };
+
+    ghost row = { stepped-row };
+
+    fn sign() -> char {
+        Self::LETTER
+    }
+
+    fn row_length(first: i64) -> Option<usize> {
+        if COUNTS.contain(first) {
+            Some(3 + 2 * first as usize)
+        } else {
+            None
+        }
+    }
+
+    fn fill(&mut self, numbers: &[i64]) -> Result<(), CostFault> {
+        *self = Stepped::of_row(numbers)?;
+        Ok(())
+    }
+
+    fn row(&self) -> Row {
+        let mut row = Row::empty();
+        if self.is_made() {
+            let (widths, slopes) = self.pieces();
+            row.extend(&[widths.len() as i64, self.first, self.opening]);
+            row.extend(widths);
+            row.extend(slopes);
+        } else {
+            row.extend(&[0, 0, 0]);
+        }
+        row
     }
 }
