@@ -4,9 +4,10 @@ use mathlib.Core.Bool.{Bool, true, false, cond}
 use Prim.Native.Nat.{ℕ, zero, suc, _+_, _-_, _≤_, _<_}
 use native.Mathlib.Decide.{ℕ-discrete}
 use native.Mathlib.Omega.{arith}
+use Rattle.std.specs.Options.{Cases}
 use Rattle.std.specs.declared.option.Option.{Option}
 use Rattle.std.specs.declared.option.Option.the-variants.{Some, None}
-use Rattle.cost.specs.Places.{first-place-from, first-place}
+use Rattle.cost.specs.Places.{first-place-from, first-place, First-place-is-first}
 
 by-eq : {P : Type 0} (m n : ℕ) → (m ≡ n → P) → (¬ (m ≡ n) → P) → P
 by-eq m n same apart = elim (ℕ-discrete m n) [ yes p ↦ same p | no q ↦ apart q ]
@@ -67,3 +68,10 @@ module _ (test : ℕ → Bool) where
   -- where no place was found, the test passes nowhere
   pub first-place-never : (n : ℕ) → first-place test n ≡ None → (j : ℕ) → j < n → test j ≡ false
   first-place-never n e j h = never-from 0 n e j (omega arith) (omega arith)
+
+pub first-place-is-first : First-place-is-first
+first-place-is-first test n = go (first-place test n) refl
+  where
+    go : (r : Option ℕ) → first-place test n ≡ r → Cases r ((j : ℕ) → j < n → test j ≡ false) (λ p. (i : ℕ) × (p ≡ i + 1) × (i < n) × (test i ≡ true) × ((j : ℕ) → j < i → test j ≡ false))
+    go None e = first-place-never test n e
+    go (Some p) e = first-place-tells test n p e

@@ -79,13 +79,13 @@ module _ (g : ℤ) (m : Meaning) where
     last-limit = rw ceiled-last (law .last-limit);
     opening-limit = law .opening-limit;
     increment-limit = λ i h.
-      let below : i < length (m .increments) = omega (arith, length-ceiled) in
-      let limits = law .increment-limit i below in
-      rw (lowered i below) (omega (arith, ints, clamps));
+        let below : i < length (m .increments) = omega (arith, length-ceiled) in
+        let limits = law .increment-limit i below in
+        rw (lowered i below) (omega (arith, ints, clamps));
     convex = λ i h.
-      let below : i + 1 < length (m .increments) = omega (arith, length-ceiled) in
-      let rises = law .convex i below in
-      rw (lowered i (omega arith), lowered (i + 1) below) (omega (arith, ints, clamps));
+        let below : i + 1 < length (m .increments) = omega (arith, length-ceiled) in
+        let rises = law .convex i below in
+        rw (lowered i (omega arith), lowered (i + 1) below) (omega (arith, ints, clamps));
   }
 
   pub ceiled-increment : (x : ℤ) → increment-at (ceiled g m) x ≡ mapped lower (increment-at m x)

@@ -67,11 +67,11 @@ keeps first opening ws ss e =
       few = grind (arith, tells);
       short = first-place-never (too-long first ws) (length ws) (none-below Long (first-place (too-long first ws) (length ws)) (three .0));
       rising = λ k h.
-        let here = first-place-never (falling ss) (length ss) (none-below Falls (first-place (falling ss) (length ss)) (three .1)) (k + 1) h in
-        let later : ltb 0 (k + 1) ≡ true = grind (arith, tells) in
-        let back : k + 1 - 1 ≡ k = omega arith in
-        let high = rw back at (not-both (ltb 0 (k + 1)) (ltZ (getD ss (k + 1) (pos 0)) (getD ss (k + 1 - 1) (pos 0))) here later) in
-        omega (arith, ints, high);
+          let here = first-place-never (falling ss) (length ss) (none-below Falls (first-place (falling ss) (length ss)) (three .1)) (k + 1) h in
+          let later : ltb 0 (k + 1) ≡ true = grind (arith, tells) in
+          let back : k + 1 - 1 ≡ k = omega arith in
+          let high = rw back at (not-both (ltb 0 (k + 1)) (ltZ (getD ss (k + 1) (pos 0)) (getD ss (k + 1 - 1) (pos 0))) here later) in
+          omega (arith, ints, high);
     }
 
 -- one more number in an array of eight
@@ -236,7 +236,7 @@ module _ (c : Stepped) (made : true ≡ not (isSome (stepped-refusal (c .first) 
   made-increment x h =
       ap (λ (m : Meaning). increment-at m x) content-means
       ∙ increment-here (stepped-meaning (c .first) (c .opening) (widths-of c) (slopes-of c)) x (natural (x -ℤ c .first))
-        (omega (arith, ints, natural-is (c .first), natural-is (x -ℤ c .first), made-keeps .numbers .first-limit .0))
+      (omega (arith, ints, natural-is (c .first), natural-is (x -ℤ c .first), made-keeps .numbers .first-limit .0))
 
   pub made-under : (x : ℤ) → x <ℤ c .first → increment-at (stepped-content c) x ≡ None
   made-under x h =

@@ -110,11 +110,13 @@ stepped-of-row xs r w e =
     let long : length ws ≡ n = length-take (natural (getD xs 0 (pos 0))) (drop 3 xs) ∙ omega (arith, length-drop 3 xs) in
     let same : stepped-row-refusal xs ≡ stepped-refusal f o ws ss = ap (λ (b : Bool). cond b (stepped-refusal f o ws ss) (Some Pieces)) w in
     let all = answered (stepped-refusal f o ws ss) (stepped-of f o ws ss) r (λ c. (stepped-row c ≡ xs) × (stepped-content c ≡ stepped-row-meaning xs)) e
-      (λ none. (made-row f o ws ss none
-        ∙ ap (λ (k : ℤ). k ∷ f ∷ o ∷ (ws ++ ss)) (ap pos long ∙ sym (t .1))
-        ∙ ap (λ (rest : List ℤ). getD xs 0 (pos 0) ∷ f ∷ o ∷ rest) (take-append-drop (natural (getD xs 0 (pos 0))) (drop 3 xs))
-        ∙ sym (split-row xs (omega arith)),
-        made-means f o ws ss none)) in
+    (λ none. (
+      made-row f o ws ss none
+          ∙ ap (λ (k : ℤ). k ∷ f ∷ o ∷ (ws ++ ss)) (ap pos long ∙ sym (t .1))
+          ∙ ap (λ (rest : List ℤ). getD xs 0 (pos 0) ∷ f ∷ o ∷ rest) (take-append-drop (natural (getD xs 0 (pos 0))) (drop 3 xs))
+          ∙ sym (split-row xs (omega arith)),
+      made-means f o ws ss none,
+    )) in
     (all .0 ∙ sym same, all .1)
 
 -- the row of any content is accepted, is as long as it tells and means that content
@@ -128,12 +130,16 @@ honest c = go (stepped-refusal f o ws ss) refl
   where
     f : ℤ
     f = c .first
+
     o : ℤ
     o = c .opening
+
     ws : List ℤ
     ws = widths-of c
+
     ss : List ℤ
     ss = slopes-of c
+
     go : (r : Option CostFault) → stepped-refusal f o ws ss ≡ r → Honest (kept-or (pos 0 ∷ pos 0 ∷ pos 0 ∷ []) r (pos (length ws) ∷ f ∷ o ∷ (ws ++ ss))) (kept-or empty-cost r (stepped-meaning f o ws ss))
     go (Some fault) e = record { accepted = refl; long = refl; means = refl }
     go None e =
@@ -143,10 +149,10 @@ honest c = go (stepped-refusal f o ws ss) refl
         let long′ = length-append ws ss in
         record {
           accepted =
-            ap (λ (b : Bool). cond b (stepped-refusal f o (take (length ws) (ws ++ ss)) (drop (length ws) (ws ++ ss))) (Some Pieces)) (whole (length ws) f o (ws ++ ss) (kept .few) (omega (arith, kept .pairs)))
-            ∙ ap (λ (xs : List ℤ). stepped-refusal f o xs (drop (length ws) (ws ++ ss))) front
-            ∙ ap (stepped-refusal f o ws) back
-            ∙ e;
+              ap (λ (b : Bool). cond b (stepped-refusal f o (take (length ws) (ws ++ ss)) (drop (length ws) (ws ++ ss))) (Some Pieces)) (whole (length ws) f o (ws ++ ss) (kept .few) (omega (arith, kept .pairs)))
+              ∙ ap (λ (xs : List ℤ). stepped-refusal f o xs (drop (length ws) (ws ++ ss))) front
+              ∙ ap (stepped-refusal f o ws) back
+              ∙ e;
           long = told (length ws) (kept .few) ∙ ap Some (omega (arith, kept .pairs));
           means = sym (ap (λ (xs : List ℤ). stepped-meaning f o xs (drop (length ws) (ws ++ ss))) front ∙ ap (stepped-meaning f o ws) back);
         }

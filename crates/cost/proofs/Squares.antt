@@ -32,6 +32,7 @@ pub record Fit (a b c : ℤ) : Type 0 where
   pub a-limit : Between (negsuc 999999) (pos 1000000) a
   pub b-limit : Between (pos 0) (pos 1000000) b
   pub c-limit : Between (pos 0) (pos 10000) c
+
 pub numbers-fit : (a b c : ℤ) → quadratic-outside a b c ≡ None → Fit a b c
 numbers-fit a b c e =
     let first = neither (outside increment-limits 1 a) _ e in
@@ -45,12 +46,13 @@ numbers-fit a b c e =
 -- a cost that is not refused: its numbers fit, and its last increment keeps the limit
 pub keeps : (a b c : ℤ) → quadratic-refusal a b c ≡ None → Fit a b c × (pos 1 ≤ℤ c → quadratic-increment a b (c -ℤ pos 1) ≤ℤ pos 1000000)
 keeps a b c e =
-    let parts = neither (mapped Number (quadratic-outside a b c)) _ e in
-    (numbers-fit a b c (none-below Number (quadratic-outside a b c) (parts .0)),
-    λ h.
-      let low : true ≡ leZ (pos 1) c = omega (arith, ints) in
-      let high = not-both (leZ (pos 1) c) (ltZ (pos 1000000) (quadratic-increment a b (c -ℤ pos 1))) (not-met Steep (steep a b c) (parts .1)) (sym low) in
-      omega (arith, ints, high))
+    let parts = neither (mapped Number (quadratic-outside a b c)) _ e in (
+      numbers-fit a b c (none-below Number (quadratic-outside a b c) (parts .0)),
+      λ h.
+          let low : true ≡ leZ (pos 1) c = omega (arith, ints) in
+          let high = not-both (leZ (pos 1) c) (ltZ (pos 1000000) (quadratic-increment a b (c -ℤ pos 1))) (not-met Steep (steep a b c) (parts .1)) (sym low) in
+          omega (arith, ints, high),
+    )
 
 module _ (a : ℤ) (b c : ℕ) (fit : Fit a (pos b) (pos c)) (flat : pos 1 ≤ℤ pos c → quadratic-increment a (pos b) (pos c -ℤ pos 1) ≤ℤ pos 1000000) where
   here : (k : ℕ) → k < c → getD (quadratic-meaning a (pos b) (pos c) .increments) k (pos 0) ≡ a +ℤ pos (2 * b * k)
@@ -68,11 +70,11 @@ module _ (a : ℤ) (b c : ℕ) (fit : Fit a (pos b) (pos c)) (flat : pos 1 ≤�
     last-limit = rw (length-map-counting (λ x. quadratic-increment a (pos b) (pos x)) 0 c) (omega (arith, ints, fit .c-limit .1));
     opening-limit = (leZ-yes tt, leZ-yes tt);
     increment-limit = λ k h.
-      let within′ : k < c = rw length-map-counting at h in
-      rw (here k within′) (omega (arith, ints, fit .a-limit .0), highest k within′);
+        let within′ : k < c = rw length-map-counting at h in
+        rw (here k within′) (omega (arith, ints, fit .a-limit .0), highest k within′);
     convex = λ k h.
-      let within′ : k + 1 < c = rw length-map-counting at h in
-      rw (here k (omega arith), here (k + 1) within′) (omega (arith, ints, mul-le-mul-left {m = k} {n = k + 1} (2 * b) (omega arith)));
+        let within′ : k + 1 < c = rw length-map-counting at h in
+        rw (here k (omega arith), here (k + 1) within′) (omega (arith, ints, mul-le-mul-left {m = k} {n = k + 1} (2 * b) (omega arith)));
   }
 
 -- the product that an increment adds is not negative, and fits

@@ -6,3 +6,4 @@ pub mod Stepped
 pub mod Quadratic
 pub mod Layers
 pub mod Rows
+pub mod Examples

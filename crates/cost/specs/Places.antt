@@ -1,6 +1,8 @@
 -- The first place at which a condition holds, and the answer of a call that one of several conditions may refuse.
-use mathlib.Core.Bool.{Bool, cond}
-use Prim.Native.Nat.{ℕ, zero, suc, _+_}
+use mathlib.Core.Path.{_≡_}
+use mathlib.Core.Bool.{Bool, true, false, cond}
+use Prim.Native.Nat.{ℕ, zero, suc, _+_, _<_}
+use Rattle.std.specs.Options.{Cases}
 use Rattle.std.specs.declared.option.Option.{Option}
 use Rattle.std.specs.declared.option.Option.the-variants.{Some, None}
 use Rattle.std.specs.declared.result.Result.{Result}
@@ -29,3 +31,10 @@ unless None value = Ok value
 abbrev pub kept-or : {T F : Type 0} → T → Option F → T → T
 kept-or other (Some f) value = other
 kept-or other None value = value
+
+-- A place that is found is one at which the test passes, and it passes at none before; where none is found it passes nowhere.
+abbrev pub First-place-is-first : Type 0
+First-place-is-first =
+    (test : ℕ → Bool) (n : ℕ) →
+    Cases (first-place test n) ((j : ℕ) → j < n → test j ≡ false)
+    (λ p. (i : ℕ) × (p ≡ i + 1) × (i < n) × (test i ≡ true) × ((j : ℕ) → j < i → test j ≡ false))

@@ -18,11 +18,31 @@ pub enum NumberFault {
     Outside(usize),
 }
 
-pub const LOADS: Limits = Limits { low: 0, high: 10_000 };
-pub const OPENINGS: Limits = Limits { low: -1_000_000_000, high: 1_000_000_000 };
-pub const WIDTHS: Limits = Limits { low: 1, high: 10_000 };
-pub const INCREMENTS: Limits = Limits { low: -1_000_000, high: 1_000_000 };
-pub const SQUARES: Limits = Limits { low: 0, high: 1_000_000 };
+pub const LOADS: Limits = Limits {
+    low: 0,
+    high: 10_000,
+};
+
+pub const OPENINGS: Limits = Limits {
+    low: -1_000_000_000,
+    high: 1_000_000_000,
+};
+
+pub const WIDTHS: Limits = Limits {
+    low: 1,
+    high: 10_000,
+};
+
+pub const INCREMENTS: Limits = Limits {
+    low: -1_000_000,
+    high: 1_000_000,
+};
+
+pub const SQUARES: Limits = Limits {
+    low: 0,
+    high: 1_000_000,
+};
+
 pub const COUNTS: Limits = Limits { low: 0, high: 8 };
 
 impl Limits {

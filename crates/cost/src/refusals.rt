@@ -52,6 +52,10 @@ impl CostFault {
             CostFault::Falls(piece) => (5, piece),
             CostFault::Steep => (6, 0),
         };
-        Refusal { number, place, layer: Layer::Cost }
+        Refusal {
+            number,
+            place,
+            layer: Layer::Cost,
+        }
     }
 }

@@ -40,7 +40,12 @@ pub struct Stepped {
 }
 
 // Refuses the first number outside its limits.
-fn check_numbers(first: i64, opening: i64, widths: &[i64], slopes: &[i64]) -> Result<(), NumberFault>
+fn check_numbers(
+    first: i64,
+    opening: i64,
+    widths: &[i64],
+    slopes: &[i64],
+) -> Result<(), NumberFault>
     requires { ⌜ length (now widths) ≤ 8 ⌝ ∗ ⌜ length (now slopes) ≤ 8 ⌝ }
     ensures { λ r. ⌜ errPart r ≡ stepped-outside first opening (now (widths .entry)) (now (slopes .entry)) ⌝ }
 {
@@ -141,7 +146,12 @@ impl Stepped {
         check_rising(slopes)
     }
 
-    pub fn new(first: i64, opening: i64, widths: &[i64], slopes: &[i64]) -> Result<Stepped, CostFault>
+    pub fn new(
+        first: i64,
+        opening: i64,
+        widths: &[i64],
+        slopes: &[i64],
+    ) -> Result<Stepped, CostFault>
         ensures answer { λ r. ⌜ r ≡ unless (stepped-refusal first opening (now (widths .entry)) (now (slopes .entry))) (stepped-of first opening (now (widths .entry)) (now (slopes .entry))) ⌝ }
         ensures means { λ r. ⌜ made r (λ c. stepped-content c ≡ stepped-meaning first opening (now (widths .entry)) (now (slopes .entry))) ⌝ }
     {

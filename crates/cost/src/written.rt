@@ -27,7 +27,10 @@ impl Row {
     pub fn empty() -> Row
         ensures { λ r. ⌜ r .count ≡ 0 ⌝ ∗ ⌜ numbers-of r ≡ [] ⌝ }
     {
-        Row { count: 0, numbers: [0; MOST_NUMBERS] }
+        Row {
+            count: 0,
+            numbers: [0; MOST_NUMBERS],
+        }
     }
 
     // The numbers that count.

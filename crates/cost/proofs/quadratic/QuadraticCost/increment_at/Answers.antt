@@ -23,10 +23,10 @@ returns-then-load-self c =
 pub returns-else-is-made : need.returns-else-is-made
 returns-else-is-made c =
     elim (c .else-is-made .came) [
-      else-is-made·by·then-is-made·then-load-ge0·else-load-self w ↦
-        sym (made-past (c .args .self .now) (w .if-is-made .ensures tt) (c .args .load) (omega (arith, ints, w .if-load-self .left)))
+      | else-is-made·by·then-is-made·then-load-ge0·else-load-self w ↦
+          sym (made-past (c .args .self .now) (w .if-is-made .ensures tt) (c .args .load) (omega (arith, ints, w .if-load-self .left)))
       | else-is-made·by·then-is-made·else-load-ge0 w ↦
-        sym (never-below-0 (c .args .self .now) (c .args .load) (omega (arith, ints, w .if-load-ge0 .left)))
+          sym (never-below-0 (c .args .self .now) (c .args .load) (omega (arith, ints, w .if-load-ge0 .left)))
       | else-is-made·by·else-is-made w ↦
-        sym (ap (λ (m : Meaning). increment-at m (c .args .load)) (unmade (c .args .self .now) (w .if-is-made .ensures tt)) ∙ increment-empty (c .args .load))
+          sym (ap (λ (m : Meaning). increment-at m (c .args .load)) (unmade (c .args .self .now) (w .if-is-made .ensures tt)) ∙ increment-empty (c .args .load))
     ]

@@ -22,9 +22,9 @@ returns c =
     let count = counted (whole-row stepped-length xs) (c .in-Some .count) (natural (getD xs 0 (pos 0))) (c .in-Some .ensures tt) in
     let rest = take-rest xs 3 in
     let widths : now (c .split-at .result .0) ≡ row-widths xs =
-      c .split-at .ensures .front ∙ ap (take (c .in-Some .count)) rest ∙ ap (λ (n : ℕ). take n (drop 3 xs)) (count .1) in
+    c .split-at .ensures .front ∙ ap (take (c .in-Some .count)) rest ∙ ap (λ (n : ℕ). take n (drop 3 xs)) (count .1) in
     let slopes : now (c .split-at .result .1) ≡ row-slopes xs =
-      c .split-at .ensures .back ∙ ap (drop (c .in-Some .count)) rest ∙ ap (λ (n : ℕ). drop n (drop 3 xs)) (count .1) in
+    c .split-at .ensures .back ∙ ap (drop (c .in-Some .count)) rest ∙ ap (λ (n : ℕ). drop n (drop 3 xs)) (count .1) in
     let made = simp toZ-ofZ at (c .new .ensures .answer) in
     let row = stepped-of-row xs (c .new .result) (count .0) (rw (widths, slopes) at made) in
     record { answer = row .0; filled = row .1 }
