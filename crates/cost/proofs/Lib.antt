@@ -1,7 +1,4 @@
 pub mod FirstPlace
 pub mod Lists
-pub mod Over
-pub mod Pieces
 pub mod Refusing
-pub mod RowLaws
-pub mod Squares
+pub mod Room

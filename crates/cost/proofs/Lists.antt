@@ -31,6 +31,12 @@ take-within n k xs e =
     (λ low. ap (λ (j : ℕ). take j xs) (omega arith))
     (λ high. take-all (min n k) xs (omega arith) ∙ sym (take-all n xs (omega arith)))
 
+-- a front of a front with more behind it
+pub take-front : {X : Type 0} (n : ℕ) (xs ys : List X) → take n (take n xs ++ ys) ≡ take n (xs ++ ys)
+take-front {X} zero xs ys = refl
+take-front {X} (suc n) [] ys = refl
+take-front {X} (suc n) (x ∷ xs) ys = ap (λ (zs : List X). x ∷ zs) (take-front n xs ys)
+
 -- a count of a whole number, for `omega`
 pub natural-is : (z : ℤ) → natural z ≡ up z - down z
 natural-is (pos n) = omega arith

@@ -1,5 +1,5 @@
 -- What it says that no condition of several refuses, and that a number is not refused by its limits.
-use mathlib.Core.Path.{_≡_, refl, sym}
+use mathlib.Core.Path.{_≡_, refl, sym, subst}
 use mathlib.Core.List.{List}
 use mathlib.Core.Bool.{Bool, true, false, cond, not, _&&_}
 use Prim.Native.Nat.{ℕ, _<_}
@@ -8,9 +8,12 @@ use lib.ListN.{length, getD}
 use lib.IntN.{ℤ, pos}
 use lib.Signed.{_≤ℤ_, leZ}
 use Rattle.std.specs.Options.{isSome, mapped}
-use Rattle.std.specs.Results.{isOk}
+use Rattle.std.specs.Results.{isOk, errPart}
+use Rattle.std.specs.Vec.{made}
 use Rattle.std.specs.declared.option.Option.{Option}
 use Rattle.std.specs.declared.option.Option.the-variants.{Some, None}
+use Rattle.std.specs.declared.result.Result.{Result}
+use Rattle.std.specs.declared.result.Result.the-variants.{Ok, Err}
 use Rattle.std.proofs.shelf.Signed.{ints}
 use Rattle.cost.specs.Meaning.{Between}
 use Rattle.cost.specs.Places.{first-place, or-else, unless, kept-or}
@@ -77,3 +80,8 @@ no-refusal (Some f) e = absurd (let z : _≡_ {A = ℕ} 0 1 = cc in omega arith)
 pub replaced : {T F : Type 0} (r : Option F) (other value : T) → false ≡ not (isSome r) → kept-or other r value ≡ other
 replaced None other value e = absurd (let z : _≡_ {A = ℕ} 0 1 = cc in omega arith)
 replaced (Some f) other value e = refl
+
+-- what is known of an answer: its refusal, and what holds of the value where there is none
+pub answered : {T F : Type 0} (refusal : Option F) (value : T) (r : Result T F) (P : T → Type 0) → r ≡ unless refusal value → (refusal ≡ None → P value) → (errPart r ≡ refusal) × made r P
+answered {T} {F} None value r P e p = subst (λ (x : Result T F). (errPart x ≡ None) × made x P) (sym e) (refl, p refl)
+answered {T} {F} (Some f) value r P e p = subst (λ (x : Result T F). (errPart x ≡ Some f) × made x P) (sym e) (refl, tt)

@@ -2,8 +2,6 @@
 ghost use mathlib.Core.Path.{_≡_};
 ghost use mathlib.Core.Bool.{true};
 ghost use Rattle.std.specs.Results.{isOk};
-ghost use Rattle.std.specs.shelf.Lists.{All};
-ghost use Rattle.cost.specs.Examples.{worked-cases};
 ghost use Rattle.cost.specs.Places.{First-place-is-first};
 use crate::refusals::CostFault;
 use crate::written::Written;
@@ -11,11 +9,6 @@ use crate::written::Written;
 // The place that a refusal names is the first at which its condition holds.
 pub fn first_place_is_first()
     ensures { λ _. ⌜ First-place-is-first ⌝ }
-{}
-
-// The worked cases come to what stands beside them.
-pub fn worked_cases_hold()
-    ensures { λ _. ⌜ All (λ c. c .0 ≡ c .1) worked-cases ⌝ }
 {}
 
 // Fills one cost from the row of another: it is never refused, and gives that row and that meaning again.

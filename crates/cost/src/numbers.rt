@@ -1,8 +1,6 @@
 // Numbers that are handed over, and the limits within which they must lie.
 ghost use mathlib.Core.Path.{_≡_};
-ghost use Prim.Native.Nat.{_+_, _^_, _<_};
-ghost use lib.ListN.{length};
-ghost use Rattle.cost.specs.Limits.{within, outside, first-outside, outside-each};
+ghost use Rattle.cost.specs.Limits.{within, outside, first-outside};
 ghost use Rattle.std.specs.Results.{errPart};
 
 // The lowest and the highest number that is accepted.
@@ -74,16 +72,5 @@ impl Limits {
             }
         }
         None
-    }
-
-    // Refuses the first number of a list outside the limits; `before` numbers of the call stand before the list.
-    pub(crate) fn check_each(self, numbers: &[i64], before: usize) -> Result<(), NumberFault>
-        requires { ⌜ before + length (now numbers) < 2 ^ 64 ⌝ }
-        ensures { λ r. ⌜ errPart r ≡ outside-each self before (now (numbers .entry)) ⌝ }
-    {
-        match self.first_outside(numbers) {
-            Some(place) => Err(NumberFault::Outside(before + place)),
-            None => Ok(()),
-        }
     }
 }

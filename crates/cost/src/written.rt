@@ -1,9 +1,9 @@
 // The kinds of cost that stand in a text: each has a letter, fills itself from a row of numbers and answers its row.
 ghost use mathlib.Core.Path.{_≡_};
 ghost use mathlib.Core.List.{List, [], _∷_, _++_};
-ghost use Prim.Native.Nat.{ℕ, _+_, _<_, _≤_};
+ghost use Prim.Native.Nat.{ℕ};
 ghost use lib.IntN.{ℤ, pos};
-ghost use lib.ListN.{length, getD};
+ghost use lib.ListN.{length, getD, take};
 ghost use Rattle.std.specs.Results.{errPart};
 ghost use Rattle.std.specs.Vec.{made, refused};
 ghost use Rattle.std.specs.declared.option.Option.{Option};
@@ -25,7 +25,7 @@ pub struct Row {
 
 impl Row {
     pub fn empty() -> Row
-        ensures { λ r. ⌜ r .count ≡ 0 ⌝ ∗ ⌜ numbers-of r ≡ [] ⌝ }
+        ensures { λ r. ⌜ numbers-of r ≡ [] ⌝ }
     {
         Row {
             count: 0,
@@ -41,24 +41,15 @@ impl Row {
         &self.numbers[0..count]
     }
 
-    // One number more.
-    pub(crate) fn push(&mut self, number: i64)
-        requires { ⌜ now self .count < 19 ⌝ }
-        ensures count { λ _. ⌜ now (self .exit) .count ≡ now (self .entry) .count + 1 ⌝ }
-        ensures numbers { λ _. ⌜ numbers-of (now (self .exit)) ≡ numbers-of (now (self .entry)) ++ number ∷ [] ⌝ }
-    {
-        self.numbers[self.count] = number;
-        self.count += 1;
-    }
-
-    // The numbers of a list more.
-    pub(crate) fn extend(&mut self, numbers: &[i64])
-        requires { ⌜ now self .count + length (now numbers) ≤ 19 ⌝ }
-        ensures count { λ _. ⌜ now (self .exit) .count ≡ now (self .entry) .count + length (now (numbers .entry)) ⌝ }
-        ensures numbers { λ _. ⌜ numbers-of (now (self .exit)) ≡ numbers-of (now (self .entry)) ++ now (numbers .entry) ⌝ }
+    // The numbers of a list more, as far as a row of nineteen has room for them.
+    pub fn extend(&mut self, numbers: &[i64])
+        ensures { λ _. ⌜ numbers-of (now (self .exit)) ≡ take 19 (numbers-of (now (self .entry)) ++ now (numbers .entry)) ⌝ }
     {
         for number in numbers {
-            self.push(*number);
+            if self.count < MOST_NUMBERS {
+                self.numbers[self.count] = *number;
+                self.count += 1;
+            }
         }
     }
 }

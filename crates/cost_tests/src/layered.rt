@@ -1,16 +1,16 @@
 // Cap and ceiling: their limits, over each other, and with numbers that no constructor took.
 use crate::checks::check_answer;
 use crate::checks::check_cost;
-use cost::layers::Cap;
-use cost::layers::CapCost;
-use cost::layers::Ceiling;
-use cost::layers::CeilingCost;
-use cost::quadratic::Quadratic;
-use cost::quadratic::QuadraticCost;
 use cost::refusals::CostFaultDebug;
-use cost::stepped::Stepped;
-use cost::stepped::SteppedCost;
+use layered_cost::layers::Cap;
+use layered_cost::layers::CapCost;
+use layered_cost::layers::Ceiling;
+use layered_cost::layers::CeilingCost;
+use quadratic_cost::quadratic::Quadratic;
+use quadratic_cost::quadratic::QuadraticCost;
 use std::test::*;
+use stepped_cost::stepped::Stepped;
+use stepped_cost::stepped::SteppedCost;
 
 #[test]
 fn each_limit_on_either_side_of_its_edge() -> Result<(), Fail> {

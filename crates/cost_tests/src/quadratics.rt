@@ -1,9 +1,9 @@
 // The quadratic cost: a table of constructions, what a made cost answers, and contents that no constructor made.
 use crate::checks::check_answer;
 use crate::checks::check_cost;
-use cost::quadratic::Quadratic;
-use cost::quadratic::QuadraticCost;
 use cost::refusals::CostFaultDebug;
+use quadratic_cost::quadratic::Quadratic;
+use quadratic_cost::quadratic::QuadraticCost;
 use std::test::*;
 
 #[test]

@@ -1,17 +1,17 @@
 // Rows: tables of rows that are filled in or refused, and rows that come back.
 use crate::checks::check_answer;
 use cost::laws::copy_by_row;
-use cost::quadratic::Quadratic;
-use cost::quadratic::QuadraticDebug;
-use cost::quadratic::QuadraticPartialEq;
-use cost::quadratic::QuadraticWritten;
 use cost::refusals::CostFaultDebug;
-use cost::stepped::Stepped;
-use cost::stepped::SteppedDebug;
-use cost::stepped::SteppedPartialEq;
-use cost::stepped::SteppedWritten;
 use cost::written::Written;
+use quadratic_cost::quadratic::Quadratic;
+use quadratic_cost::quadratic::QuadraticDebug;
+use quadratic_cost::quadratic::QuadraticPartialEq;
+use quadratic_cost::quadratic::QuadraticWritten;
 use std::test::*;
+use stepped_cost::stepped::Stepped;
+use stepped_cost::stepped::SteppedDebug;
+use stepped_cost::stepped::SteppedPartialEq;
+use stepped_cost::stepped::SteppedWritten;
 
 // A row, and the refusal's number and place; number 0 where it is filled in.
 #[derive(Clone, Copy)]

@@ -2,9 +2,9 @@
 use crate::checks::check_answer;
 use crate::checks::check_cost;
 use cost::refusals::CostFaultDebug;
-use cost::stepped::Stepped;
-use cost::stepped::SteppedCost;
 use std::test::*;
+use stepped_cost::stepped::Stepped;
+use stepped_cost::stepped::SteppedCost;
 
 // What a constructor is given, and the number and place of the refusal; number 0 where a cost is made.
 #[derive(Clone, Copy)]

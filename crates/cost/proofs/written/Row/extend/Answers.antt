@@ -1,20 +1,28 @@
-use mathlib.Core.Path.{_≡_, sym, _∙_, ap}
-use mathlib.Core.List.{List, [], _∷_, _++_}
-use native.Mathlib.Omega.{arith}
-use lib.IntN.{ℤ, pos}
-use lib.ListN.{length, getD, take}
+use mathlib.Core.Path.{_≡_}
+use lib.IntN.{pos}
+use lib.ListN.{length, getD}
 use borrow.Author.Needs.{needs}
-use Rattle.std.proofs.shelf.Lists.{append-assoc, take-all, take-more}
+use Rattle.std.proofs.shelf.Lists.{take-all}
 use Rattle.cost.specs.Rows.{numbers-of}
+use Rattle.cost.proofs.Room.{begun, full, further, pushed}
 use Rattle.cost.proofs.written.Row.extend.Needs as need
+use Rattle.cost.proofs.written.Row.extend.Needs.{then-self-lt-MOST-NUMBERS, else-self-lt-MOST-NUMBERS}
+
+pub loop-number-holds : need.loop-number-holds
+loop-number-holds c =
+    let long : length (c .args .self .now .numbers) ≡ 19 = search needs in
+    (long, begun (c .args .self .now .numbers) (c .args .self .now .count) long)
 
 pub loop-number-again : need.loop-number-again
 loop-number-again c =
-    let xs = c .args .numbers .now in
-    let k = c .loop-number .number-index in
-    let more = take-more xs k (pos 0) (c .loop-number-test .taken) in
-    let joined = append-assoc (numbers-of (c .args .self .now)) (take k xs) (getD xs k (pos 0) ∷ []) in
-    (omega arith, search needs)
+    let row = c .loop-number .self in
+    let number = getD (c .args .numbers .now) (c .loop-number .number-index) (pos 0) in
+    let long = c .loop-number .inv .0 in
+    let e = further (numbers-of (c .args .self .now)) (c .args .numbers .now) (c .loop-number .number-index) (c .loop-number-test .taken) in
+    elim (c .if-self-lt-MOST-NUMBERS .came) [
+      | then-self-lt-MOST-NUMBERS w ↦ (let p = pushed (row .numbers) (row .count) long number (w .if-self-lt-MOST-NUMBERS .taken) in search needs)
+      | else-self-lt-MOST-NUMBERS w ↦ (let p = full (row .numbers) (row .count) long number (w .if-self-lt-MOST-NUMBERS .left) in search needs)
+    ]
 
 pub returns : need.returns
 returns c =

@@ -1,9 +1,0 @@
-use borrow.Author.Needs.{needs}
-use Rattle.cost.proofs.Over.{ceiled-increment}
-use Rattle.cost.proofs.layers.CeilingCost.increment_at.Needs as need
-
-pub returns-in-Some : need.returns-in-Some
-returns-in-Some g c = let e = ceiled-increment (c .args .self .now .limit) (g .C·Cost .meaning (c .args .self .now .below)) (c .args .load) in search needs
-
-pub returns-in-None : need.returns-in-None
-returns-in-None g c = let e = ceiled-increment (c .args .self .now .limit) (g .C·Cost .meaning (c .args .self .now .below)) (c .args .load) in search needs

@@ -1,0 +1,3 @@
+// The stepped cost, a kind of cost that stands in texts under the letter S.
+
+pub mod stepped;
