@@ -1,3 +1,4 @@
+pub mod Amount
 pub mod FirstPlace
 pub mod Lists
 pub mod Refusing

@@ -45,6 +45,10 @@ in-range m x = leZ (pos (m .first)) x && leZ x (pos (last m))
 abbrev pub amount-at : Meaning → ℤ → ℤ
 amount-at m x = m .opening +ℤ total (take (beyond m x) (m .increments))
 
+-- The amount at a load; absent outside the range.
+abbrev pub amount-within : Meaning → ℤ → Option ℤ
+amount-within m x = cond (in-range m x) (Some (amount-at m x)) None
+
 -- What going from a load to the next adds; absent below the first load and from the last load on.
 abbrev pub increment-at : Meaning → ℤ → Option ℤ
 increment-at m x = cond (leZ (pos (m .first)) x) (nth (m .increments) (beyond m x)) None
@@ -52,6 +56,10 @@ increment-at m x = cond (leZ (pos (m .first)) x) (nth (m .increments) (beyond m 
 -- A number from `low` to `high`.
 abbrev pub Between : ℤ → ℤ → ℤ → Type 0
 Between low high x = (low ≤ℤ x) × (x ≤ℤ high)
+
+-- A load of the range, as a fact.
+abbrev pub In-range : Meaning → ℤ → Type 0
+In-range m x = Between (pos (m .first)) (pos (last m)) x
 
 -- Each number of the list lies from `low` to `high`.
 abbrev pub All-between : ℤ → ℤ → List ℤ → Type 0

@@ -1,0 +1,14 @@
+pub mod Products
+pub mod Counted
+pub mod Sums
+pub mod Least
+pub mod Changes
+pub mod Balance
+pub mod Duality
+pub mod Cuts
+pub mod Gathers
+pub mod Gains
+pub mod Costs
+pub mod Walk
+pub mod Floors
+pub mod Nets

@@ -1,0 +1,4 @@
+pub mod Sums
+pub mod Network
+pub mod Records
+pub mod Theorems
