@@ -14,11 +14,13 @@ use Rattle.network.specs.declared.records.Node.{Node}
 use Rattle.network.specs.declared.records.Arc.{Arc}
 
 -- What stands past the end of a list of nodes.
-abbrev no-node : Node
+-- A node with no supply and no price, not marked.
+abbrev pub no-node : Node
 no-node = record { supply = pos 0; price = pos 0; marked = false }
 
 -- What stands past the end of a list of arcs.
-abbrev no-arc : Arc
+-- An arc without load, from the first node to itself.
+abbrev pub no-arc : Arc
 no-arc = record { tail = 0; head = 0; load = pos 0 }
 
 -- A list of numbers by index; 0 past its end.

@@ -1,0 +1,65 @@
+-- A sheet's tables and its book: as many records as it has nodes and arcs, and the same ones.
+use mathlib.Core.Path.{_≡_, refl, sym, _∙_, ap}
+use mathlib.Core.List.{List}
+use mathlib.Core.Bool.{Bool, true, false, cond, _&&_}
+use Prim.Native.Nat.{ℕ, _-_, _≤_, _<_}
+use native.Mathlib.Omega.{arith}
+use lib.ListN.{length, getD, take}
+use lib.IntN.{ℤ, pos}
+use lib.Signed.{leZ}
+use Rattle.std.specs.declared.option.Option.{Option}
+use Rattle.std.specs.declared.option.Option.the-variants.{Some, None}
+use Rattle.std.specs.declared.result.Result.{Result}
+use Rattle.std.specs.declared.result.Result.the-variants.{Ok, Err}
+use Rattle.std.proofs.shelf.Lists.{length-take-le, getD-take}
+use Rattle.std.proofs.shelf.Signed.{ints}
+use Rattle.cost.specs.Meaning.{natural}
+use Rattle.cost.proofs.Lists.{natural-is}
+use Rattle.cost.proofs.Refusing.{both}
+use Rattle.network.specs.Records.{no-node, no-arc, Sound}
+use Rattle.network.specs.declared.records.Node.{Node}
+use Rattle.network.specs.declared.records.Arc.{Arc}
+use Rattle.sheet.specs.Books.{book-of}
+use Rattle.sheet.specs.Lookups.{place-in, at-number}
+use Rattle.sheet.specs.declared.faults.SheetFault.{SheetFault}
+use Rattle.sheet.specs.declared.faults.SheetFault.the-variants.{Unknown}
+use Rattle.sheet.specs.declared.sheets.Sheet.{Sheet}
+
+-- a place that has a number lies among those that are there
+pub place-below : (count : ℕ) (number : ℤ) (v : ℕ) → Some v ≡ place-in count number → v < count
+place-below count number v e = go (leZ (pos 1) number && leZ number (pos count)) refl
+  where
+    go : (b : Bool) → leZ (pos 1) number && leZ number (pos count) ≡ b → v < count
+    go true here =
+        let limits = both (leZ (pos 1) number) (leZ number (pos count)) here in
+        let is : v ≡ natural number - 1 = (let e′ : _≡_ {A = Option ℕ} (Some v) (Some (natural number - 1)) = e ∙ ap (λ (b : Bool). cond b (Some (natural number - 1)) None) here in cc) in
+        omega (arith, ints, natural-is number, limits .0, limits .1)
+    go false here =
+        absurd (let e′ : _≡_ {A = Option ℕ} (Some v) None = e ∙ ap (λ (b : Bool). cond b (Some (natural number - 1)) None) here in let z : _≡_ {A = ℕ} 0 1 = cc in omega arith)
+
+-- what is asked by a number that something has, and by one that nothing has
+pub asked : {T : Type 0} (n count : ℕ) (number : ℤ) (answer : ℕ → Result T SheetFault) (place : Option ℕ) → n ≡ count → place ≡ place-in count number → at-number (place-in n number) answer ≡ at-number place answer
+asked n count number answer place e known = ap (λ (k : ℕ). at-number (place-in k number) answer) e ∙ ap (λ (p : Option ℕ). at-number p answer) (sym known)
+
+module _ (s : Sheet) where
+  pub nodes-counted : length (book-of s .nodes) ≡ s .«node_count»
+  nodes-counted = length-take-le (s .«node_count») (s .table .nodes) (omega (arith, s .«few_nodes», s .«node_places»))
+
+  pub arcs-counted : length (book-of s .arcs) ≡ s .«arc_count»
+  arcs-counted = length-take-le (s .«arc_count») (s .table .arcs) (omega (arith, s .«few_arcs», s .«arc_places»))
+
+  pub node-kept : (v : ℕ) → v < s .«node_count» → getD (book-of s .nodes) v no-node ≡ getD (s .table .nodes) v no-node
+  node-kept v h = getD-take (s .«node_count») (s .table .nodes) v no-node h
+
+  pub arc-kept : (a : ℕ) → a < s .«arc_count» → getD (book-of s .arcs) a no-arc ≡ getD (s .table .arcs) a no-arc
+  arc-kept a h = getD-take (s .«arc_count») (s .table .arcs) a no-arc h
+
+  -- the book of a sheet keeps the limits of a network
+  pub sheet-sound : Sound (book-of s .nodes) (book-of s .arcs)
+  sheet-sound = record {
+    node-limit = omega (arith, nodes-counted, s .«few_nodes»);
+    arc-limit = omega (arith, arcs-counted, s .«few_arcs»);
+    tails = λ a h. let below : a < s .«arc_count» = omega (arith, arcs-counted) in rw (arc-kept a below, nodes-counted) (s .tails a below);
+    heads = λ a h. let below : a < s .«arc_count» = omega (arith, arcs-counted) in rw (arc-kept a below, nodes-counted) (s .heads a below);
+    supply-limit = λ v h. let below : v < s .«node_count» = omega (arith, nodes-counted) in rw (node-kept v below) (s .supplies v below);
+  }
