@@ -5,7 +5,7 @@ use mathlib.Core.Bool.{Bool, true, false, cond, _&&_}
 use Prim.Native.Nat.{ℕ, zero, suc, _+_, _≤_, _<_}
 use native.Mathlib.Omega.{arith}
 use lib.Dec.{eqb}
-use lib.ListN.{length, getD}
+use lib.ListN.{length, getD, set}
 use lib.IntN.{ℤ, pos}
 use Rattle.std.specs.Options.{mapped}
 use Rattle.std.specs.declared.option.Option.{Option}
@@ -13,19 +13,22 @@ use Rattle.std.specs.declared.option.Option.the-variants.{Some, None}
 use Rattle.std.proofs.shelf.Lists.{length-map}
 use Rattle.std.proofs.shelf.Signed.{ints}
 use Rattle.std.proofs.shelf.Ways.{tells}
-use Rattle.cost.specs.Limits.{first-outside}
+use Rattle.cost.specs.Limits.{outside, first-outside}
 use Rattle.cost.specs.Meaning.{Meaning, Lawful, empty-cost}
-use Rattle.cost.specs.Places.{or-else}
+use Rattle.cost.specs.Places.{or-else, kept-or}
 use Rattle.cost.specs.declared.numbers.NumberFault.the-variants.{Outside}
 use Rattle.cost.proofs.Lists.{empty-lawful}
 use Rattle.cost.proofs.Refusing.{passed, both, all-inside}
-use Rattle.network.specs.Records.{net-of, cost-of, numbers, Ranged, Within, out-of-range, unmet}
+use Rattle.network.specs.Records.{no-node, net-of, cost-of, numbers, Ranged, Within, out-of-range, unmet}
 use Rattle.network.specs.declared.records.Node.{Node}
 use Rattle.network.specs.declared.records.Arc.{Arc}
-use Rattle.sheet.specs.Calls.{needed, charge-refusal, floor-refusal}
-use Rattle.sheet.specs.Limits.{price-limits}
+use Rattle.sheet.specs.Calls.{needed, unknown, charge-refusal, floor-refusal, supply-refusal, supplied, with-supply}
+use Rattle.sheet.specs.Limits.{supply-limits, price-limits}
+use Rattle.sheet.specs.Books.{Book, opened}
+use Rattle.sheet.specs.Lookups.{place-in}
 use Rattle.sheet.specs.declared.faults.SheetFault.{SheetFault}
 use Rattle.sheet.specs.declared.faults.SheetFault.the-variants as fault
+use Rattle.sheet.proofs.Tables.{place-is}
 
 -- what holds where two lists have the right length
 pub listed : (m n k l : ℕ) → None ≡ needed (eqb m n && eqb k l) fault.List → (m ≡ n) × (k ≡ l)
@@ -84,3 +87,20 @@ module _ (nodes : List Node) (arcs : List Arc) (costs : List Meaning) (numbers�
 -- prices of which none lies outside its limits
 pub within-prices : (prices : List ℤ) → None ≡ first-outside price-limits prices → Within 100000000 prices
 within-prices prices e k h = all-inside price-limits 0 prices (ap (mapped (λ n. Outside (0 + n))) (sym e)) k h
+
+-- ---- edits
+
+known-place : (place : Option ℕ) (v : ℕ) → Some v ≡ place → elim place as (λ _. Option SheetFault) [ None ↦ Some (fault.Unknown 1) | Some k ↦ None ] ≡ None
+known-place None v e = absurd (let z : _≡_ {A = ℕ} 0 1 = cc in omega arith)
+known-place (Some k) v e = refl
+
+-- a supply that is set, at the place v of its node
+module _ (b : Book) (node amount : ℤ) (v : ℕ) (known : Some v ≡ place-in (length (b .nodes)) node) (fits : None ≡ outside supply-limits 2 amount) where
+  pub supply-accepted : supply-refusal b node amount ≡ None
+  supply-accepted = by-last (mapped fault.Number (outside supply-limits 2 amount)) (unknown (length (b .nodes)) node) (ap (mapped fault.Number) (sym fits)) ∙ known-place (place-in (length (b .nodes)) node) v known
+
+  pub supplied-at : (nodes : List Node) → nodes ≡ set (b .nodes) v (with-supply amount (getD (b .nodes) v no-node)) → kept-or b (supply-refusal b node amount) (supplied b node amount) ≡ opened nodes (b .arcs)
+  supplied-at nodes e =
+      ap (λ (r : Option SheetFault). kept-or b r (supplied b node amount)) supply-accepted
+      ∙ ap (λ (k : ℕ). opened (set (b .nodes) k (with-supply amount (getD (b .nodes) k no-node))) (b .arcs)) (sym (place-is (length (b .nodes)) node v known))
+      ∙ ap (λ (ns : List Node). opened ns (b .arcs)) (sym e)
