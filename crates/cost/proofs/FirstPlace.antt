@@ -9,7 +9,7 @@ use Rattle.std.specs.declared.option.Option.{Option}
 use Rattle.std.specs.declared.option.Option.the-variants.{Some, None}
 use Rattle.cost.specs.Places.{first-place-from, first-place, First-place-is-first}
 
-by-eq : {P : Type 0} (m n : ℕ) → (m ≡ n → P) → (¬ (m ≡ n) → P) → P
+pub by-eq : {P : Type 0} (m n : ℕ) → (m ≡ n → P) → (¬ (m ≡ n) → P) → P
 by-eq m n same apart = elim (ℕ-discrete m n) [ yes p ↦ same p | no q ↦ apart q ]
 
 none-some : {p : ℕ} → _≡_ {A = Option ℕ} None (Some p) → ⊥

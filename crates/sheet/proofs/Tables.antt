@@ -1,19 +1,20 @@
 -- A sheet's tables and its book: as many records as it has nodes and arcs, and the same ones.
-use mathlib.Core.Path.{_≡_, refl, sym, _∙_, ap}
+use mathlib.Core.Path.{_≡_, refl, sym, _∙_, ap, subst}
 use mathlib.Core.List.{List, [], _∷_, map}
 use mathlib.Core.Bool.{Bool, true, false, cond, _&&_}
 use Prim.Native.Nat.{ℕ, zero, suc, _-_, _≤_, _<_}
 use native.Mathlib.Omega.{arith}
 use lib.ListN.{length, getD, set, take}
-use lib.IntN.{ℤ, pos}
+use lib.IntN.{ℤ, pos, negsuc}
 use lib.Signed.{leZ}
 use Rattle.std.specs.declared.option.Option.{Option}
 use Rattle.std.specs.declared.option.Option.the-variants.{Some, None}
 use Rattle.std.specs.declared.result.Result.{Result}
 use Rattle.std.specs.declared.result.Result.the-variants.{Ok, Err}
-use Rattle.std.proofs.shelf.Lists.{length-map, length-take-le, getD-map, getD-take}
+use Rattle.std.proofs.shelf.Lists.{length-map, length-set, length-take-le, getD-map, getD-set-other, getD-set-same, getD-take}
 use Rattle.std.proofs.shelf.Signed.{ints}
-use Rattle.cost.specs.Meaning.{natural}
+use Rattle.cost.specs.Meaning.{natural, Between}
+use Rattle.cost.proofs.FirstPlace.{by-eq}
 use Rattle.cost.proofs.Lists.{natural-is}
 use Rattle.cost.proofs.Refusing.{both}
 use Rattle.network.specs.Records.{no-node, no-arc, Sound}
@@ -93,3 +94,10 @@ module _ (s : Sheet) where
 
   pub reset-node-at : (v : ℕ) → v < s .«node_count» → getD (map reset-node (s .table .nodes)) v no-node ≡ reset-node (getD (s .table .nodes) v no-node)
   reset-node-at v h = getD-map reset-node (s .table .nodes) v no-node no-node (omega (arith, s .«few_nodes», s .«node_places»))
+
+  -- a node whose supply lies within its limits, put at one place, keeps the limits of all
+  pub put-limit : (v : ℕ) (x : Node) → Between (negsuc 99999) (pos 100000) (x .supply) → (k : ℕ) → k < s .«node_count» → Between (negsuc 99999) (pos 100000) (getD (set (s .table .nodes) v x) k no-node .supply)
+  put-limit v x fits k h =
+      by-eq k v
+      (λ same. subst (λ (j : ℕ). Between (negsuc 99999) (pos 100000) (getD (set (s .table .nodes) j x) k no-node .supply)) same (rw (getD-set-same (s .table .nodes) k x no-node (omega (arith, s .«few_nodes», s .«node_places»))) fits))
+      (λ apart. rw (getD-set-other (s .table .nodes) v k x no-node apart) (s .supplies k h))

@@ -4,3 +4,4 @@ pub mod Faults
 pub mod Limits
 pub mod Lookups
 pub mod Standings
+pub mod Drafts

@@ -9,6 +9,7 @@ use crate::standing::Standing;
 use network::records::Arc;
 use network::records::Node;
 
+pub mod drafting;
 pub mod edits;
 pub mod lookups;
 pub mod pricing;

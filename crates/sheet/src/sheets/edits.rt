@@ -1,11 +1,15 @@
 // The edits of a book: another supply of a node, another cost of an arc. Both open it again.
 ghost use mathlib.Core.Path.{_≡_};
 ghost use mathlib.Core.List.{map};
-ghost use lib.ListN.{length};
+ghost use Prim.Native.Nat.{_<_};
+ghost use lib.IntN.{pos, negsuc};
+ghost use lib.ListN.{length, getD, set};
 ghost use Rattle.std.specs.Results.{errPart};
+ghost use Rattle.cost.specs.Meaning.{Between};
 ghost use Rattle.cost.specs.Places.{kept-or};
+ghost use Rattle.network.specs.Records.{no-node};
 ghost use Rattle.sheet.specs.Books.{book-of, opened, reset-arc, reset-node};
-ghost use Rattle.sheet.specs.Calls.{supplied, supply-refusal, swap-refusal, swapped};
+ghost use Rattle.sheet.specs.Calls.{supplied, supply-refusal, swap-refusal, swapped, with-supply};
 use crate::faults::SheetFault;
 use crate::faults::SheetFaultFromNumber;
 use crate::sheets::Sheet;
@@ -50,6 +54,17 @@ impl Sheet {
         reset_arcs(&mut self.table.arcs);
     }
 
+    // Writes the supply of a node into its record.
+    pub(crate) fn put_supply(&mut self, v: usize, amount: i64)
+        requires { ⌜ v < now self .«node_count» ⌝ ∗ ⌜ Between (negsuc 99999) (pos 100000) amount ⌝ }
+        ensures nodes { λ _. ⌜ book-of (now (self .exit)) .nodes ≡ set (book-of (now (self .entry)) .nodes) v (with-supply amount (getD (book-of (now (self .entry)) .nodes) v no-node)) ⌝ }
+        ensures arcs { λ _. ⌜ book-of (now (self .exit)) .arcs ≡ book-of (now (self .entry)) .arcs ⌝ }
+        ensures standing { λ _. ⌜ now (self .exit) .standing ≡ now (self .entry) .standing ⌝ }
+        ensures counts { λ _. ⌜ now (self .exit) .«node_count» ≡ now (self .entry) .«node_count» ⌝ }
+    {
+        self.table.nodes[v].supply = amount;
+    }
+
     // Sets the supply of one node.
     pub fn supply(&mut self, node: i64, amount: i64) -> Result<(), SheetFault>
         ensures answer { λ r. ⌜ errPart r ≡ supply-refusal (book-of (now (self .entry))) node amount ⌝ }
@@ -59,7 +74,7 @@ impl Sheet {
         let Some(v) = place_of(node, self.node_count) else {
             return Err(SheetFault::Unknown(1));
         };
-        self.table.nodes[v].supply = amount;
+        self.put_supply(v, amount);
         self.reopen();
         Ok(())
     }

@@ -1,8 +1,12 @@
 // What a sheet answers when something is looked up in it.
 ghost use mathlib.Core.Path.{_≡_};
-ghost use lib.ListN.{length};
+ghost use mathlib.Core.List.{[]};
+ghost use Prim.Native.Nat.{_≤_};
+ghost use lib.ListN.{length, replicate};
+ghost use Rattle.network.specs.Records.{no-node};
 ghost use Rattle.sheet.specs.Books.{blank-book, book-of};
 ghost use Rattle.sheet.specs.Lookups.{ends-at, load-at, mark-at, place-in, price-at, supply-at};
+ghost use Rattle.sheet.specs.declared.standing.Standing.the-variants.{Open};
 use crate::faults::SheetFault;
 use crate::sheets::MOST_ARCS;
 use crate::sheets::MOST_NODES;
@@ -28,9 +32,10 @@ pub(crate) fn place_of(number: i64, count: usize) -> Option<usize>
 }
 
 impl Sheet {
-    // A sheet with neither nodes nor arcs.
-    pub fn blank() -> Sheet
-        ensures { λ r. ⌜ book-of r ≡ blank-book ⌝ }
+    // A sheet of so many nodes, whose supplies are 0, and of no arcs.
+    pub(crate) fn of_nodes(count: usize) -> Sheet
+        requires { ⌜ count ≤ 64 ⌝ }
+        ensures { λ r. ⌜ book-of r ≡ record { nodes = replicate count no-node; arcs = []; standing = Open } ⌝ }
     {
         let node = Node {
             supply: 0,
@@ -43,7 +48,7 @@ impl Sheet {
             load: 0,
         };
         Sheet {
-            node_count: 0,
+            node_count: count,
             arc_count: 0,
             table: Table {
                 nodes: [node; MOST_NODES],
@@ -51,6 +56,13 @@ impl Sheet {
             },
             standing: Standing::Open,
         }
+    }
+
+    // A sheet with neither nodes nor arcs.
+    pub fn blank() -> Sheet
+        ensures { λ r. ⌜ book-of r ≡ blank-book ⌝ }
+    {
+        Sheet::of_nodes(0)
     }
 
     pub fn node_count(&self) -> usize

@@ -8,7 +8,7 @@ use Rattle.std.proofs.shelf.Signed.{toZ-ofZ}
 use Rattle.cost.specs.Limits.{outside}
 use Rattle.network.specs.Records.{no-node}
 use Rattle.network.specs.declared.records.Node.{Node}
-use Rattle.sheet.specs.Books.{book-of}
+use Rattle.sheet.specs.Books.{book-of, opened}
 use Rattle.sheet.specs.Calls.{with-supply}
 use Rattle.sheet.specs.Limits.{supply-limits}
 use Rattle.sheet.specs.Lookups.{place-in}
@@ -21,12 +21,9 @@ returns c =
     let s = c .args .self .now in
     let v = c .in-Some .v in
     let here : Some v ≡ place-in (s .«node_count») (c .args .node) = search needs in
-    let kept = node-kept s v (place-below (s .«node_count») (c .args .node) v here) in
     let known : Some v ≡ place-in (length (book-of s .nodes)) (c .args .node) = rw (nodes-counted s) here in
-    let fits : None ≡ outside supply-limits 2 (c .args .amount) = search needs in
-    let front = take-of-set (s .«node_count») (s .table .nodes) v (with-supply (c .args .amount) (getD (s .table .nodes) v no-node)) in
-    let same = front ∙ ap (λ (n : Node). set (book-of s .nodes) v (with-supply (c .args .amount) n)) (sym kept) in
-    let new = supplied-at (book-of s) (c .args .node) (c .args .amount) v known fits _ same in
     let amount = c .fits .amount in
-    let book = simp toZ-ofZ at (c .reopen .ensures) in
+    let fits : None ≡ outside supply-limits 2 (c .args .amount) = search needs in
+    let new = supplied-at (book-of s) (c .args .node) (c .args .amount) v known fits _ (simp toZ-ofZ at (c .put-supply .ensures .nodes)) in
+    let book = c .reopen .ensures ∙ ap (opened _) (c .put-supply .ensures .arcs) in
     record { answer = sym (supply-accepted (book-of s) (c .args .node) (c .args .amount) v known fits); after = book ∙ sym new }
