@@ -2,7 +2,7 @@
 use mathlib.Core.Path.{_≡_, refl, sym, _∙_, ap, subst}
 use mathlib.Core.List.{List, [], _∷_, map}
 use mathlib.Core.Bool.{Bool, true, false, cond, _&&_}
-use Prim.Native.Nat.{ℕ, zero, suc, _-_, _≤_, _<_}
+use Prim.Native.Nat.{ℕ, zero, suc, _+_, _-_, _≤_, _<_}
 use native.Mathlib.Omega.{arith}
 use lib.ListN.{length, getD, set, take}
 use lib.IntN.{ℤ, pos, negsuc}
@@ -101,3 +101,10 @@ module _ (s : Sheet) where
       by-eq k v
       (λ same. subst (λ (j : ℕ). Between (negsuc 99999) (pos 100000) (getD (set (s .table .nodes) j x) k no-node .supply)) same (rw (getD-set-same (s .table .nodes) k x no-node (omega (arith, s .«few_nodes», s .«node_places»))) fits))
       (λ apart. rw (getD-set-other (s .table .nodes) v k x no-node apart) (s .supplies k h))
+
+  -- what holds of each arc and of one more
+  pub push-keeps : (x : Arc) (P : Arc → Type 0) → s .«arc_count» < 256 → P x → ((a : ℕ) → a < s .«arc_count» → P (getD (s .table .arcs) a no-arc)) → (a : ℕ) → a < s .«arc_count» + 1 → P (getD (set (s .table .arcs) (s .«arc_count») x) a no-arc)
+  push-keeps x P room here before a h =
+      by-eq a (s .«arc_count»)
+      (λ same. subst (λ (j : ℕ). P (getD (set (s .table .arcs) j x) a no-arc)) same (subst P (sym (getD-set-same (s .table .arcs) a x no-arc (omega (arith, s .«arc_places»)))) here))
+      (λ apart. subst P (sym (getD-set-other (s .table .arcs) (s .«arc_count») a x no-arc apart)) (before a (omega arith)))

@@ -1,6 +1,6 @@
 // The edits of a book: another supply of a node, another cost of an arc. Both open it again.
 ghost use mathlib.Core.Path.{_≡_};
-ghost use mathlib.Core.List.{map};
+ghost use mathlib.Core.List.{[], _∷_, _++_, map};
 ghost use Prim.Native.Nat.{_<_};
 ghost use lib.IntN.{pos, negsuc};
 ghost use lib.ListN.{length, getD, set};
@@ -63,6 +63,25 @@ impl Sheet {
         ensures counts { λ _. ⌜ now (self .exit) .«node_count» ≡ now (self .entry) .«node_count» ⌝ }
     {
         self.table.nodes[v].supply = amount;
+    }
+
+    // Puts one arc more, without load, behind the others.
+    pub(crate) fn push_arc(&mut self, tail: usize, head: usize)
+        requires room { ⌜ now self .«arc_count» < 256 ⌝ }
+        requires tail { ⌜ tail < now self .«node_count» ⌝ }
+        requires head { ⌜ head < now self .«node_count» ⌝ }
+        ensures nodes { λ _. ⌜ book-of (now (self .exit)) .nodes ≡ book-of (now (self .entry)) .nodes ⌝ }
+        ensures arcs { λ _. ⌜ book-of (now (self .exit)) .arcs ≡ book-of (now (self .entry)) .arcs ++ record { tail = tail; head = head; load = pos 0 } ∷ [] ⌝ }
+        ensures standing { λ _. ⌜ now (self .exit) .standing ≡ now (self .entry) .standing ⌝ }
+        ensures counts { λ _. ⌜ now (self .exit) .«node_count» ≡ now (self .entry) .«node_count» ⌝ }
+    {
+        let arc = Arc {
+            tail,
+            head,
+            load: 0,
+        };
+        self.table.arcs[self.arc_count] = arc;
+        self.arc_count += 1;
     }
 
     // Sets the supply of one node.

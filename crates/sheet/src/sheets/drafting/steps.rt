@@ -18,6 +18,7 @@ use crate::sheets::drafting::Draft;
 use crate::sheets::drafting::Size;
 use crate::sheets::edits::SUPPLIES;
 use crate::sheets::lookups::place_of;
+use crate::standing::Standing;
 use cost::numbers::Limits;
 
 pub const SIZES: Limits = Limits { low: 0, high: 64 };
@@ -54,5 +55,35 @@ impl Draft {
         self.book.put_supply(self.fed, supply);
         self.fed += 1;
         Ok(())
+    }
+
+    // Lays the next arc, from its tail to its head.
+    pub fn lay(&mut self, tail: i64, head: i64) -> Result<(), DraftFault>
+        ensures answer { λ r. ⌜ errPart r ≡ lay-refusal (sketch-of (now (self .entry))) tail head ⌝ }
+        ensures after { λ _. ⌜ sketch-of (now (self .exit)) ≡ kept-or (sketch-of (now (self .entry))) (lay-refusal (sketch-of (now (self .entry))) tail head) (with-arc (sketch-of (now (self .entry))) tail head) ⌝ }
+    {
+        let laid = self.book.arc_count;
+        if laid >= MOST_ARCS {
+            return Err(DraftFault::Full(MOST_ARCS));
+        }
+        let Some(from) = place_of(tail, self.book.node_count) else {
+            return Err(DraftFault::Unknown(1));
+        };
+        let Some(to) = place_of(head, self.book.node_count) else {
+            return Err(DraftFault::Unknown(2));
+        };
+        if from == to {
+            return Err(DraftFault::Loop(laid + 1));
+        }
+        self.book.push_arc(from, to);
+        Ok(())
+    }
+
+    // Fills a sheet with the book of the draft.
+    pub fn open(self, sheet: &mut Sheet)
+        ensures { λ _. ⌜ book-of (now (sheet .exit)) ≡ drafted (sketch-of self) ⌝ }
+    {
+        *sheet = self.book;
+        sheet.standing = Standing::Open;
     }
 }
