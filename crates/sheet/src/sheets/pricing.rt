@@ -1,16 +1,17 @@
 // What loads are charged and what prices promise, for the book of a sheet.
 ghost use mathlib.Core.Path.{_≡_};
 ghost use mathlib.Core.List.{map};
-ghost use mathlib.Core.Bool.{_&&_};
+ghost use mathlib.Core.Bool.{true, _&&_};
 ghost use lib.Dec.{eqb};
 ghost use lib.Signed.{_≤ℤ_};
+ghost use Rattle.std.specs.Orderings.{Decides};
 ghost use Rattle.std.specs.Results.{errPart};
 ghost use Rattle.std.specs.Vec.{made};
 ghost use Rattle.std.specs.declared.result.Result.the-variants.{Ok};
 ghost use Rattle.cost.specs.Places.{or-else, unless};
-ghost use Rattle.network.specs.Network.{charge, floor};
+ghost use Rattle.network.specs.Network.{charge, floor, Cheapest, Highest};
 ghost use Rattle.network.specs.Records.{net-of, numbers, Sound};
-ghost use Rattle.sheet.specs.Books.{book-of};
+ghost use Rattle.sheet.specs.Books.{book-of, network-of};
 ghost use Rattle.sheet.specs.Calls.{charge-answer, charge-refusal, floor-answer, floor-refusal, needed};
 ghost use Rattle.sheet.specs.declared.faults.SheetFault.the-variants.{List};
 use crate::faults::SheetFault;
@@ -107,5 +108,16 @@ impl Sheet {
         let charge = self.charge(costs, loads)?;
         let floor = self.floor(costs, prices)?;
         Ok((floor, charge))
+    }
+
+    // Whether the floor of the prices equals the charge of the loads. If it does, no routing that meets the network is
+    // charged less, and no prices have a higher floor.
+    pub fn is_cheapest<C: Cost>(&self, costs: &[C], loads: &[i64], prices: &[i64]) -> Result<bool, SheetFault>
+        ensures refusal { λ r. ⌜ errPart r ≡ or-else (errPart (charge-answer (book-of (now (self .entry))) (map (C·Cost .meaning) (now (costs .entry))) (now (loads .entry)))) (errPart (floor-answer (book-of (now (self .entry))) (map (C·Cost .meaning) (now (costs .entry))) (now (prices .entry)))) ⌝ }
+        ensures equal { λ r. ⌜ made r (λ equal. Decides equal (floor (network-of (book-of (now (self .entry))) (map (C·Cost .meaning) (now (costs .entry)))) (numbers (now (prices .entry))) ≡ charge (network-of (book-of (now (self .entry))) (map (C·Cost .meaning) (now (costs .entry)))) (numbers (now (loads .entry))))) ⌝ }
+        ensures best { λ r. ⌜ made r (λ equal. equal ≡ true → Cheapest (network-of (book-of (now (self .entry))) (map (C·Cost .meaning) (now (costs .entry)))) (numbers (now (loads .entry))) × Highest (network-of (book-of (now (self .entry))) (map (C·Cost .meaning) (now (costs .entry)))) (numbers (now (prices .entry)))) ⌝ }
+    {
+        let (floor, charge) = self.floor_and_charge(costs, loads, prices)?;
+        Ok(floor == charge)
     }
 }
