@@ -1,40 +1,43 @@
-// The program `route`: prices an office's tariff. It prints what each arc of an example charges, load by load, and which of
-// three routings is charged least.
+// The program `route`: drafts the book of an example, prices its tariff, and says which of three routings is cheapest.
+mod example;
 mod tariff;
 
 use cost::refusals::CostFaultDebug;
+use example::draft;
+use example::tariffs;
+use sheet::faults::DraftFaultDebug;
+use sheet::faults::SheetFaultDebug;
+use sheet::sheets::Sheet;
 use std::error::AnyError;
-use stepped_cost::stepped::Stepped;
 use stepped_cost::stepped::SteppedCost;
-use tariff::charge;
+use tariff::print_charge;
+use tariff::print_floor;
 use tariff::print_table;
 
-// The costs of the example's three arcs: four requests at 1, four at 2, and two at 2 before two at 5.
-fn example() -> Option<[Stepped; 3]> {
-    let first = Stepped::new(0, 0, &[4], &[1]).ok()?;
-    let second = Stepped::new(0, 0, &[4], &[2]).ok()?;
-    let third = Stepped::new(0, 0, &[2, 2], &[2, 5]).ok()?;
-    Some([first, second, third])
-}
-
 fn run(rt: &LibcRuntime) -> Result<(), AnyError> {
-    let costs = example().ok_or("the example is refused")?;
+    let mut sheet = Sheet::blank();
+    if draft(&mut sheet).is_err() {
+        return Err("the draft is refused".into());
+    }
+    let Ok(costs) = tariffs() else {
+        return Err("a cost is refused".into());
+    };
     for (a, cost) in costs.iter().enumerate() {
         println!(rt, "arc {}", a + 1)?;
         print_table(rt, cost)?;
     }
-    let routings = [[2, 2, 2], [4, 4, 0], [0, 0, 4]];
-    let mut least = i64::MAX;
-    let mut cheapest = routings[0];
-    for loads in routings.iter() {
-        let amount = charge(&costs, loads).ok_or("a load lies outside its range")?;
-        println!(rt, "charge of {} {} {} is {amount}", loads[0], loads[1], loads[2])?;
-        if amount < least {
-            least = amount;
-            cheapest = *loads;
-        }
+    for loads in [[2, 2, 2], [4, 4, 0], [0, 0, 4]].iter() {
+        print_charge(rt, &sheet, &costs, loads)?;
     }
-    println!(rt, "cheapest is {} {} {}", cheapest[0], cheapest[1], cheapest[2])?;
+    for prices in [[3, 2, 0], [0, 0, 0]].iter() {
+        print_floor(rt, &sheet, &costs, prices)?;
+    }
+    if let Ok(true) = sheet.is_cheapest(&costs, &[2, 2, 2], &[3, 2, 0]) {
+        println!(
+            rt,
+            "the charge of 2 2 2 equals the floor of 3 2 0, so 2 2 2 is cheapest"
+        )?;
+    }
     Ok(())
 }
 

@@ -1,22 +1,8 @@
-// What an arc charges, load by load, and what loads are charged together.
-ghost use mathlib.Core.Path.{_≡_};
-ghost use mathlib.Core.List.{map};
-ghost use Rattle.route.specs.Priced.{priced};
+// What is printed of a tariff.
 use cost::costs::Cost;
 use cost::costs::amount_at;
-use network::charge::charge_of;
-use network::routing::first_out_of_range;
+use sheet::sheets::Sheet;
 use std::io;
-
-// The charge of a routing; absent where the loads are none: another number of them, or one outside its range.
-pub fn charge<C: Cost>(costs: &[C], loads: &[i64]) -> Option<i64>
-    ensures { λ r. ⌜ r ≡ priced (map (C·Cost .meaning) (now (costs .entry))) (now (loads .entry)) ⌝ }
-{
-    if costs.len() != loads.len() || costs.len() > 256 || first_out_of_range(costs, loads).is_some() {
-        return None;
-    }
-    Some(charge_of(costs, loads))
-}
 
 // Prints each load of the range with its increment, which the last load lacks, and its amount.
 pub fn print_table<C: Cost>(rt: &LibcRuntime, cost: &C) -> io::Result<()> {
@@ -29,4 +15,38 @@ pub fn print_table<C: Cost>(rt: &LibcRuntime, cost: &C) -> io::Result<()> {
         }
     }
     Ok(())
+}
+
+// Prints the charge of three loads, or the number of the refusal.
+pub fn print_charge<C: Cost>(
+    rt: &LibcRuntime,
+    sheet: &Sheet,
+    costs: &[C],
+    loads: &[i64; 3],
+) -> io::Result<()> {
+    let [x, y, z] = *loads;
+    match sheet.charge(costs, loads) {
+        Ok(charge) => println!(rt, "charge of {x} {y} {z} is {charge}"),
+        Err(fault) => {
+            let number = fault.refusal().number;
+            println!(rt, "charge of {x} {y} {z} refused {number}")
+        }
+    }
+}
+
+// Prints the floor of three prices, or the number of the refusal.
+pub fn print_floor<C: Cost>(
+    rt: &LibcRuntime,
+    sheet: &Sheet,
+    costs: &[C],
+    prices: &[i64; 3],
+) -> io::Result<()> {
+    let [p, q, r] = *prices;
+    match sheet.floor(costs, prices) {
+        Ok(floor) => println!(rt, "floor of {p} {q} {r} is {floor}"),
+        Err(fault) => {
+            let number = fault.refusal().number;
+            println!(rt, "floor of {p} {q} {r} refused {number}")
+        }
+    }
 }

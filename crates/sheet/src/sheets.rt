@@ -15,6 +15,7 @@ pub mod lookups;
 pub mod pricing;
 
 pub const MOST_NODES: usize = 64;
+
 pub const MOST_ARCS: usize = 256;
 
 // The records of a sheet, one for each node and one for each arc that it could have.

@@ -31,7 +31,8 @@ impl Standing {
                 *self = Standing::Open;
                 Ok(())
             }
-            (Standing::Settled, Event::ReadRouting) | (Standing::Barred, Event::ReadMarks) => Ok(()),
+            (Standing::Settled, Event::ReadRouting) | (Standing::Barred, Event::ReadMarks) =>
+                Ok(()),
             (_, Event::ReadRouting) | (_, Event::ReadMarks) => Err(SheetFault::Unread),
         }
     }

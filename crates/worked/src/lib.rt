@@ -5,5 +5,4 @@ ghost use Rattle.worked.specs.Cases.{Holds, worked-cases};
 // Each case of the list holds.
 pub fn worked_cases_hold()
     ensures { λ _. ⌜ All Holds worked-cases ⌝ }
-{
-}
+{}

@@ -99,7 +99,12 @@ impl Sheet {
     }
 
     // Replaces the cost of one arc in the list that is handed over.
-    pub fn swap<C: Cost + Drop>(&mut self, arc: i64, cost: C, costs: &mut [C]) -> Result<(), SheetFault>
+    pub fn swap<C: Cost + Drop>(
+        &mut self,
+        arc: i64,
+        cost: C,
+        costs: &mut [C],
+    ) -> Result<(), SheetFault>
         ensures answer { λ r. ⌜ errPart r ≡ swap-refusal (book-of (now (self .entry))) (length (now (costs .entry))) arc ⌝ }
         ensures after { λ _. ⌜ book-of (now (self .exit)) ≡ kept-or (book-of (now (self .entry))) (swap-refusal (book-of (now (self .entry))) (length (now (costs .entry))) arc) (opened (book-of (now (self .entry)) .nodes) (book-of (now (self .entry)) .arcs)) ⌝ }
         ensures costs { λ _. ⌜ now (costs .exit) ≡ kept-or (now (costs .entry)) (swap-refusal (book-of (now (self .entry))) (length (now (costs .entry))) arc) (swapped (now (costs .entry)) arc cost) ⌝ }

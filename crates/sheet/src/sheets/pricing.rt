@@ -43,7 +43,12 @@ fn check_lists(costs: usize, arcs: usize, numbers: usize, count: usize) -> Resul
 }
 
 // The charge of a routing that meets the network of these nodes and arcs.
-fn charged<C: Cost>(nodes: &[Node], arcs: &[Arc], costs: &[C], loads: &[i64]) -> Result<i64, SheetFault>
+fn charged<C: Cost>(
+    nodes: &[Node],
+    arcs: &[Arc],
+    costs: &[C],
+    loads: &[i64],
+) -> Result<i64, SheetFault>
     requires { ⌜ Sound (now nodes) (now arcs) ⌝ }
     ensures { λ r. ⌜ r ≡ unless (charge-refusal (now (nodes .entry)) (now (arcs .entry)) (map (C·Cost .meaning) (now (costs .entry))) (now (loads .entry))) (charge (net-of (now (nodes .entry)) (now (arcs .entry)) (map (C·Cost .meaning) (now (costs .entry)))) (numbers (now (loads .entry)))) ⌝ }
 {
@@ -58,7 +63,12 @@ fn charged<C: Cost>(nodes: &[Node], arcs: &[Arc], costs: &[C], loads: &[i64]) ->
 }
 
 // The floor of prices under the network of these nodes and arcs.
-fn floored<C: Cost>(nodes: &[Node], arcs: &[Arc], costs: &[C], prices: &[i64]) -> Result<i64, SheetFault>
+fn floored<C: Cost>(
+    nodes: &[Node],
+    arcs: &[Arc],
+    costs: &[C],
+    prices: &[i64],
+) -> Result<i64, SheetFault>
     requires { ⌜ Sound (now nodes) (now arcs) ⌝ }
     ensures { λ r. ⌜ r ≡ unless (floor-refusal (now (nodes .entry)) (now (arcs .entry)) (map (C·Cost .meaning) (now (costs .entry))) (now (prices .entry))) (floor (net-of (now (nodes .entry)) (now (arcs .entry)) (map (C·Cost .meaning) (now (costs .entry)))) (numbers (now (prices .entry)))) ⌝ }
 {
@@ -99,7 +109,12 @@ impl Sheet {
     }
 
     // The floor of prices and the charge of a routing that meets the network; the floor is at most the charge.
-    pub fn floor_and_charge<C: Cost>(&self, costs: &[C], loads: &[i64], prices: &[i64]) -> Result<(i64, i64), SheetFault>
+    pub fn floor_and_charge<C: Cost>(
+        &self,
+        costs: &[C],
+        loads: &[i64],
+        prices: &[i64],
+    ) -> Result<(i64, i64), SheetFault>
         ensures floor { λ r. ⌜ made r (λ both. Ok (both .0) ≡ floor-answer (book-of (now (self .entry))) (map (C·Cost .meaning) (now (costs .entry))) (now (prices .entry))) ⌝ }
         ensures charge { λ r. ⌜ made r (λ both. Ok (both .1) ≡ charge-answer (book-of (now (self .entry))) (map (C·Cost .meaning) (now (costs .entry))) (now (loads .entry))) ⌝ }
         ensures refusal { λ r. ⌜ errPart r ≡ or-else (errPart (charge-answer (book-of (now (self .entry))) (map (C·Cost .meaning) (now (costs .entry))) (now (loads .entry)))) (errPart (floor-answer (book-of (now (self .entry))) (map (C·Cost .meaning) (now (costs .entry))) (now (prices .entry)))) ⌝ }
@@ -112,7 +127,12 @@ impl Sheet {
 
     // Whether the floor of the prices equals the charge of the loads. If it does, no routing that meets the network is
     // charged less, and no prices have a higher floor.
-    pub fn is_cheapest<C: Cost>(&self, costs: &[C], loads: &[i64], prices: &[i64]) -> Result<bool, SheetFault>
+    pub fn is_cheapest<C: Cost>(
+        &self,
+        costs: &[C],
+        loads: &[i64],
+        prices: &[i64],
+    ) -> Result<bool, SheetFault>
         ensures refusal { λ r. ⌜ errPart r ≡ or-else (errPart (charge-answer (book-of (now (self .entry))) (map (C·Cost .meaning) (now (costs .entry))) (now (loads .entry)))) (errPart (floor-answer (book-of (now (self .entry))) (map (C·Cost .meaning) (now (costs .entry))) (now (prices .entry)))) ⌝ }
         ensures equal { λ r. ⌜ made r (λ equal. Decides equal (floor (network-of (book-of (now (self .entry))) (map (C·Cost .meaning) (now (costs .entry)))) (numbers (now (prices .entry))) ≡ charge (network-of (book-of (now (self .entry))) (map (C·Cost .meaning) (now (costs .entry)))) (numbers (now (loads .entry))))) ⌝ }
         ensures best { λ r. ⌜ made r (λ equal. equal ≡ true → Cheapest (network-of (book-of (now (self .entry))) (map (C·Cost .meaning) (now (costs .entry)))) (numbers (now (loads .entry))) × Highest (network-of (book-of (now (self .entry))) (map (C·Cost .meaning) (now (costs .entry)))) (numbers (now (prices .entry)))) ⌝ }

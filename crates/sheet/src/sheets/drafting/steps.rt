@@ -29,7 +29,9 @@ pub fn size(count: i64) -> Result<Size, DraftFault>
     ensures count { λ r. ⌜ made r (λ s. pos (s .count) ≡ count) ⌝ }
 {
     SIZES.check(count, 1)?;
-    Ok(Size { count: count as usize })
+    Ok(Size {
+        count: count as usize,
+    })
 }
 
 impl Draft {

@@ -11,10 +11,22 @@ use Rattle.sheet.proofs.sheets.Sheet.push_arc.Needs as need
 pub ghost-self : need.ghost-self
 ghost-self c =
     let s = c .args .self .now in
-    let arc : Arc = record { tail = c .args .tail; head = c .args .head; load = pos 0 } in
-    (s .«node_places», (length-set (s .table .arcs) (s .«arc_count») arc ∙ s .«arc_places», (s .«few_nodes», (omega (arith, c .pre .room),
-    (push-keeps s arc (λ x. x .tail < s .«node_count») (c .pre .room) (c .pre .tail) (s .tails),
-    (push-keeps s arc (λ x. x .head < s .«node_count») (c .pre .room) (c .pre .head) (s .heads), (s .supplies, tt)))))))
+    let arc : Arc = record { tail = c .args .tail; head = c .args .head; load = pos 0 } in (
+      s .«node_places»,
+      (
+        length-set (s .table .arcs) (s .«arc_count») arc ∙ s .«arc_places»,
+        (
+          s .«few_nodes»,
+          (
+            omega (arith, c .pre .room),
+            (
+              push-keeps s arc (λ x. x .tail < s .«node_count») (c .pre .room) (c .pre .tail) (s .tails),
+              (push-keeps s arc (λ x. x .head < s .«node_count») (c .pre .room) (c .pre .head) (s .heads), (s .supplies, tt)),
+            ),
+          ),
+        ),
+      ),
+    )
 
 pub returns : need.returns
 returns c =

@@ -13,9 +13,25 @@ use Rattle.sheet.proofs.sheets.Sheet.put_supply.Needs as need
 pub ghost-self : need.ghost-self
 ghost-self c =
     let s = c .args .self .now in
-    let fits = c .fits .amount in
-    (length-set (s .table .nodes) (c .args .v) _ ∙ s .«node_places», (s .«arc_places», (s .«few_nodes», (s .«few_arcs», (s .tails, (s .heads,
-    (λ k h. put-limit s (c .args .v) _ (simp toZ-ofZ (c .pre .1)) k h, tt)))))))
+    let fits = c .fits .amount in (
+      length-set (s .table .nodes) (c .args .v) _ ∙ s .«node_places»,
+      (
+        s .«arc_places»,
+        (
+          s .«few_nodes»,
+          (
+            s .«few_arcs»,
+            (
+              s .tails,
+              (
+                s .heads,
+                (λ k h. put-limit s (c .args .v) _ (simp toZ-ofZ (c .pre .1)) k h, tt),
+              ),
+            ),
+          ),
+        ),
+      ),
+    )
 
 pub returns : need.returns
 returns c =

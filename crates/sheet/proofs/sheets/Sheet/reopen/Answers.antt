@@ -8,11 +8,25 @@ use Rattle.sheet.proofs.sheets.Sheet.reopen.Needs as need
 
 pub ghost-self : need.ghost-self
 ghost-self c =
-    let s = c .args .self .now in
-    (ap length (c .reset-nodes .ensures) ∙ reset-places s, (ap length (c .reset-arcs .ensures) ∙ reset-arc-places s, (s .«few_nodes», (s .«few_arcs»,
-    (λ a h. simp (c .reset-arcs .ensures, reset-arc-at s a h) (s .tails a h),
-    (λ a h. simp (c .reset-arcs .ensures, reset-arc-at s a h) (s .heads a h),
-    (λ v h. simp (c .reset-nodes .ensures, reset-node-at s v h) (s .supplies v h), tt)))))))
+    let s = c .args .self .now in (
+      ap length (c .reset-nodes .ensures) ∙ reset-places s,
+      (
+        ap length (c .reset-arcs .ensures) ∙ reset-arc-places s,
+        (
+          s .«few_nodes»,
+          (
+            s .«few_arcs»,
+            (
+              λ a h. simp (c .reset-arcs .ensures, reset-arc-at s a h) (s .tails a h),
+              (
+                λ a h. simp (c .reset-arcs .ensures, reset-arc-at s a h) (s .heads a h),
+                (λ v h. simp (c .reset-nodes .ensures, reset-node-at s v h) (s .supplies v h), tt),
+              ),
+            ),
+          ),
+        ),
+      ),
+    )
 
 pub returns : need.returns
 returns c =
