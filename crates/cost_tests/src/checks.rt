@@ -8,7 +8,7 @@ use cost::refusals::RefusalPartialEq;
 use std::test::*;
 
 // The answer is a cost exactly where the number is 0, and else the refusal with that number and place, in the layer of costs.
-pub fn check_answer<T: Drop>(
+pub(crate) fn check_answer<T: Drop>(
     answer: Result<T, CostFault>,
     number: usize,
     place: usize,
@@ -27,7 +27,7 @@ pub fn check_answer<T: Drop>(
 }
 
 // The cost has this first load, this opening amount and these increments, and none below or past them.
-pub fn check_cost<C: Cost>(
+pub(crate) fn check_cost<C: Cost>(
     cost: &C,
     first: i64,
     opening: i64,

@@ -7,7 +7,7 @@ use sheet::sheets::drafting::steps::size;
 use stepped_cost::stepped::Stepped;
 
 // Node 1 supplies four requests and node 3 takes them, over node 2 or directly.
-pub fn draft(sheet: &mut Sheet) -> Result<(), DraftFault> {
+pub(crate) fn draft(sheet: &mut Sheet) -> Result<(), DraftFault> {
     let mut feeding = begin(sheet, size(3)?);
     for supply in [4, 0, -4] {
         feeding.feed(supply)?;
@@ -21,7 +21,7 @@ pub fn draft(sheet: &mut Sheet) -> Result<(), DraftFault> {
 }
 
 // The costs of the three arcs: four requests at 1, four at 2, and two at 2 before two at 5.
-pub fn tariffs() -> Result<[Stepped; 3], CostFault> {
+pub(crate) fn tariffs() -> Result<[Stepped; 3], CostFault> {
     let first = Stepped::new(0, 0, &[4], &[1])?;
     let second = Stepped::new(0, 0, &[4], &[2])?;
     let third = Stepped::new(0, 0, &[2, 2], &[2, 5])?;

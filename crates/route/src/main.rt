@@ -2,11 +2,8 @@
 mod example;
 mod tariff;
 
-use cost::refusals::CostFaultDebug;
 use example::draft;
 use example::tariffs;
-use sheet::faults::DraftFaultDebug;
-use sheet::faults::SheetFaultDebug;
 use sheet::sheets::Sheet;
 use std::error::AnyError;
 use stepped_cost::stepped::SteppedCost;

@@ -5,7 +5,7 @@ use sheet::sheets::Sheet;
 use std::io;
 
 // Prints each load of the range with its increment, which the last load lacks, and its amount.
-pub fn print_table<C: Cost>(rt: &LibcRuntime, cost: &C) -> io::Result<()> {
+pub(crate) fn print_table<C: Cost>(rt: &LibcRuntime, cost: &C) -> io::Result<()> {
     println!(rt, "load increment amount")?;
     for load in cost.first_load()..=cost.last_load() {
         let amount = amount_at(cost, load).unwrap_or(0);
@@ -18,7 +18,7 @@ pub fn print_table<C: Cost>(rt: &LibcRuntime, cost: &C) -> io::Result<()> {
 }
 
 // Prints the charge of three loads, or the number of the refusal.
-pub fn print_charge<C: Cost>(
+pub(crate) fn print_charge<C: Cost>(
     rt: &LibcRuntime,
     sheet: &Sheet,
     costs: &[C],
@@ -35,7 +35,7 @@ pub fn print_charge<C: Cost>(
 }
 
 // Prints the floor of three prices, or the number of the refusal.
-pub fn print_floor<C: Cost>(
+pub(crate) fn print_floor<C: Cost>(
     rt: &LibcRuntime,
     sheet: &Sheet,
     costs: &[C],

@@ -11,7 +11,7 @@ use sheet::sheets::drafting::steps::size;
 use std::test::*;
 
 // The answer is accepted exactly where the number is 0, and else the refusal with that number and place, in the layer of drafts.
-pub fn check_draft<T: Drop>(
+pub(crate) fn check_draft<T: Drop>(
     answer: Result<T, DraftFault>,
     number: usize,
     place: usize,
@@ -30,7 +30,7 @@ pub fn check_draft<T: Drop>(
 }
 
 // The same in the layer of sheets.
-pub fn check_sheet<T: Drop>(
+pub(crate) fn check_sheet<T: Drop>(
     answer: Result<T, SheetFault>,
     number: usize,
     place: usize,
@@ -49,7 +49,7 @@ pub fn check_sheet<T: Drop>(
 }
 
 // The book with these supplies and these arcs.
-pub fn book(supplies: &[i64], arcs: &[(i64, i64)]) -> Result<Sheet, DraftFault> {
+pub(crate) fn book(supplies: &[i64], arcs: &[(i64, i64)]) -> Result<Sheet, DraftFault> {
     let mut sheet = Sheet::blank();
     let count = i64::try_from(supplies.len()).unwrap_or(i64::MAX);
     let mut feeding = begin(&mut sheet, size(count)?);

@@ -68,13 +68,13 @@ impl Sheet {
     pub fn node_count(&self) -> usize
         ensures { λ r. ⌜ r ≡ length (book-of (now (self .entry)) .nodes) ⌝ }
     {
-        self.node_count
+        self.nodes().len()
     }
 
     pub fn arc_count(&self) -> usize
         ensures { λ r. ⌜ r ≡ length (book-of (now (self .entry)) .arcs) ⌝ }
     {
-        self.arc_count
+        self.arcs().len()
     }
 
     pub fn stands(&self) -> Standing
@@ -110,7 +110,7 @@ impl Sheet {
         let Some(a) = place_of(arc, self.arc_count) else {
             return Err(SheetFault::Unknown(1));
         };
-        let mut standing = self.standing;
+        let mut standing = self.stands();
         standing.meet(Event::ReadRouting)?;
         Ok(self.table.arcs[a].load)
     }
@@ -122,7 +122,7 @@ impl Sheet {
         let Some(v) = place_of(node, self.node_count) else {
             return Err(SheetFault::Unknown(1));
         };
-        let mut standing = self.standing;
+        let mut standing = self.stands();
         standing.meet(Event::ReadRouting)?;
         Ok(self.table.nodes[v].price)
     }
@@ -134,7 +134,7 @@ impl Sheet {
         let Some(v) = place_of(node, self.node_count) else {
             return Err(SheetFault::Unknown(1));
         };
-        let mut standing = self.standing;
+        let mut standing = self.stands();
         standing.meet(Event::ReadMarks)?;
         Ok(self.table.nodes[v].marked)
     }
