@@ -14,6 +14,7 @@ use Rattle.std.specs.declared.option.Option.the-variants.{Some, None}
 use Rattle.std.proofs.shelf.Signed.{ints, by-ltZ}
 use Rattle.std.proofs.shelf.Tests.{and-parts, and-from, cond-true, cond-false, cases-lt}
 use Rattle.std.proofs.shelf.Maps.{nth-getD, nth-past}
+use Rattle.cost.proofs.Lists.{total-suc}
 use Rattle.cost.specs.Meaning.{Meaning, last, total, beyond, in-range, In-range, amount-at, amount-within, increment-at, Between, Lawful}
 
 -- the test of a range and what it tests
@@ -71,11 +72,6 @@ increment-none m x h e =
 pub next-in-range : (m : Meaning) (x i : ℤ) → increment-at m x ≡ Some i → In-range m (x +ℤ pos 1)
 next-in-range m x i e = let place = increment-some m x i e in omega (arith, ints)
 
-total-more : (xs : List ℤ) (k : ℕ) → k < length xs → total (take (suc k) xs) ≡ total (take k xs) +ℤ getD xs k (pos 0)
-total-more [] k h = absurd (omega arith)
-total-more (x ∷ xs) zero h = omega (arith, ints)
-total-more (x ∷ xs) (suc k) h = omega (arith, ints, total-more xs k (omega arith))
-
 pub amount-first : (m : Meaning) → amount-at m (pos (m .first)) ≡ m .opening
 amount-first m = let start : beyond m (pos (m .first)) ≡ 0 = omega (arith, ints) in rw start (omega (arith, ints))
 
@@ -84,12 +80,12 @@ pub amount-next : (m : Meaning) (x i : ℤ) → increment-at m x ≡ Some i → 
 amount-next m x i e =
     let place = increment-some m x i e in
     let next : beyond m (x +ℤ pos 1) ≡ suc (beyond m x) = omega (arith, ints) in
-    rw next (omega (arith, ints, total-more (m .increments) (beyond m x) (omega (arith, ints)), place .is))
+    rw next (omega (arith, ints, total-suc (m .increments) (beyond m x) (omega (arith, ints)), place .is))
 
 total-limit : (xs : List ℤ) (k c : ℕ) → k ≤ length xs → ((j : ℕ) → j < length xs → Between (negℤ (pos c)) (pos c) (getD xs j (pos 0)))
     → Between (negℤ (pos (k * c))) (pos (k * c)) (total (take k xs))
 total-limit xs zero c h each = omega (arith, ints)
-total-limit xs (suc k) c h each = omega (arith, ints, total-more xs k (omega arith), each k (omega arith), total-limit xs k c (omega arith) each)
+total-limit xs (suc k) c h each = omega (arith, ints, total-suc xs k (omega arith), each k (omega arith), total-limit xs k c (omega arith) each)
 
 -- the largest amount: the largest opening amount and as many of the largest increments as there can be
 pub amount-limit : (m : Meaning) (x : ℤ) → Lawful m → In-range m x → Between (negℤ (pos 11000000000)) (pos 11000000000) (amount-at m x)

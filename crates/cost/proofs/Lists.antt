@@ -71,7 +71,7 @@ pub total-append : (xs ys : List ℤ) → total (xs ++ ys) ≡ total xs +ℤ tot
 total-append [] ys = omega (arith, ints)
 total-append (x ∷ xs) ys = ap (λ (n : ℤ). x +ℤ n) (total-append xs ys) ∙ omega (arith, ints)
 
-total-suc : (xs : List ℤ) (k : ℕ) → k < length xs → total (take (suc k) xs) ≡ total (take k xs) +ℤ getD xs k (pos 0)
+pub total-suc : (xs : List ℤ) (k : ℕ) → k < length xs → total (take (suc k) xs) ≡ total (take k xs) +ℤ getD xs k (pos 0)
 total-suc [] k h = absurd (omega arith)
 total-suc (x ∷ xs) zero h = omega (arith, ints)
 total-suc (x ∷ xs) (suc k) h = ap (λ (n : ℤ). x +ℤ n) (total-suc xs k (omega arith)) ∙ omega (arith, ints)

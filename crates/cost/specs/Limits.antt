@@ -29,6 +29,7 @@ first-outside limits xs = first-place (λ k. not (within limits (getD xs k (pos 
 abbrev pub outside-each : Limits → ℕ → List ℤ → Option NumberFault
 outside-each limits before xs = mapped (λ place. Outside (before + place)) (first-outside limits xs)
 
+-- Limits by their two ends.
 abbrev from-to : ℤ → ℤ → Limits
 from-to low high = record { low = low; high = high }
 
@@ -36,9 +37,11 @@ from-to low high = record { low = low; high = high }
 abbrev pub load-limits : Limits
 load-limits = from-to (pos 0) (pos 10000)
 
+-- An opening amount.
 abbrev pub opening-limits : Limits
 opening-limits = from-to (negsuc 999999999) (pos 1000000000)
 
+-- The width of a piece.
 abbrev pub width-limits : Limits
 width-limits = from-to (pos 1) (pos 10000)
 

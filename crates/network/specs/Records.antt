@@ -13,13 +13,11 @@ use Rattle.network.specs.Network.{Net, surplus}
 use Rattle.network.specs.declared.records.Node.{Node}
 use Rattle.network.specs.declared.records.Arc.{Arc}
 
--- What stands past the end of a list of nodes.
--- A node with no supply and no price, not marked.
+-- What stands past the end of a list of nodes: a node with no supply and no price, not marked.
 abbrev pub no-node : Node
 no-node = record { supply = pos 0; price = pos 0; marked = false }
 
--- What stands past the end of a list of arcs.
--- An arc without load, from the first node to itself.
+-- What stands past the end of a list of arcs: an arc without load, from the first node to itself.
 abbrev pub no-arc : Arc
 no-arc = record { tail = 0; head = 0; load = pos 0 }
 

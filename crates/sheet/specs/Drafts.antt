@@ -29,6 +29,7 @@ pub record Sketch : Type 0 where
   pub arcs : List Arc
   pub fed : ℕ
 
+-- What a draft holds.
 abbrev pub sketch-of : Draft → Sketch
 sketch-of d = record { nodes = book-of (d .book) .nodes; arcs = book-of (d .book) .arcs; fed = d .fed }
 

@@ -19,10 +19,11 @@ use Rattle.stepped_cost.specs.declared.stepped.Stepped.{Stepped}
 abbrev pub stepped-length : ℤ → Option ℕ
 stepped-length k = cond (within count-limits k) (Some (3 + 2 * natural k)) None
 
--- The widths and the slopes of a row follow its first three numbers.
+-- The widths of a row follow its first three numbers.
 abbrev pub row-widths : List ℤ → List ℤ
 row-widths row = take (natural (getD row 0 (pos 0))) (drop 3 row)
 
+-- The slopes of a row follow its widths.
 abbrev pub row-slopes : List ℤ → List ℤ
 row-slopes row = drop (natural (getD row 0 (pos 0))) (drop 3 row)
 

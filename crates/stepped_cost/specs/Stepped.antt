@@ -53,10 +53,11 @@ stepped-refusal first opening ws ss =
     (or-else (mapped Number (stepped-outside first opening ws ss))
     (or-else (mapped Long (first-place (too-long first ws) (length ws))) (mapped Falls (first-place (falling ss) (length ss)))))
 
--- The widths and the slopes of a content: those of its pieces that count.
+-- The widths of the pieces of a content that count.
 abbrev pub widths-of : Stepped → List ℤ
 widths-of c = take (c .count) (c .widths)
 
+-- The slopes of the pieces of a content that count.
 abbrev pub slopes-of : Stepped → List ℤ
 slopes-of c = take (c .count) (c .slopes)
 

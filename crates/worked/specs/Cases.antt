@@ -21,6 +21,7 @@ pub data Case : Type 0 where
   over-full : Net → (ℕ → Bool) → Case
   not-over-full : Net → (ℕ → Bool) → Case
 
+-- What a case claims.
 abbrev pub Holds : Case → Type 0
 Holds (comes-to defined expected) = defined ≡ expected
 Holds (over-full net marked) = Over-full net marked
@@ -38,6 +39,7 @@ squares = quadratic-content (record { a = pos 4; b = pos 3; c = pos 2 })
 
 -- ---- networks
 
+-- A node with a supply.
 abbrev node : ℤ → Node
 node supply = record { supply = supply; price = pos 0; marked = false }
 
@@ -55,9 +57,11 @@ three-arcs =
     net-of (node (pos 4) ∷ node (pos 0) ∷ node (negsuc 3) ∷ []) (arc 0 1 ∷ arc 1 2 ∷ arc 0 2 ∷ [])
     (steps (pos 0) (pos 4 ∷ []) (pos 1 ∷ []) ∷ steps (pos 0) (pos 4 ∷ []) (pos 2 ∷ []) ∷ steps (pos 0) (pos 2 ∷ pos 2 ∷ []) (pos 2 ∷ pos 5 ∷ []) ∷ [])
 
+-- The charge of three loads.
 abbrev charge-of : ℤ → ℤ → ℤ → List ℤ
 charge-of x y z = charge three-arcs (numbers (x ∷ y ∷ z ∷ [])) ∷ []
 
+-- The floor of three prices.
 abbrev floor-of : ℤ → ℤ → ℤ → List ℤ
 floor-of p q r = floor three-arcs (numbers (p ∷ q ∷ r ∷ [])) ∷ []
 
@@ -73,6 +77,7 @@ forced-arc = net-of (node (pos 0) ∷ node (pos 0) ∷ []) (arc 1 0 ∷ []) (ste
 abbrev node-1 : ℕ → Bool
 node-1 v = eqb v 0
 
+-- All cases.
 abbrev pub worked-cases : List Case
 worked-cases =
     comes-to (amount-at falling-off (pos 4) ∷ []) (pos 5 ∷ [])
