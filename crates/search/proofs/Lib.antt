@@ -1,0 +1,15 @@
+pub mod Counts
+pub mod Marks
+pub mod Passes
+pub mod Sources
+pub mod Pushes
+pub mod Gathered
+pub mod Excess
+pub mod Relief
+pub mod Turning
+pub mod Pairwise
+pub mod Ascent
+pub mod Attempts
+pub mod Climb
+pub mod Drawing
+pub mod Whole

@@ -1,0 +1,10 @@
+pub mod Runs
+pub mod Digits
+pub mod Calls
+pub mod Listing
+pub mod Spelling
+pub mod Overwriting
+pub mod Spaces
+pub mod Standing
+pub mod Returning
+pub mod ReturningLists
