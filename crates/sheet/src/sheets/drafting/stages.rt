@@ -44,6 +44,7 @@ impl<'a> Feeding<'a> {
         ensures answer { λ r. ⌜ errPart r ≡ feed-refusal (sketch-of (now (self .entry) .draft)) supply ⌝ }
         ensures after { λ _. ⌜ sketch-of (now (self .exit) .draft) ≡ kept-or (sketch-of (now (self .entry) .draft)) (feed-refusal (sketch-of (now (self .entry) .draft)) supply) (with-fed (sketch-of (now (self .entry) .draft)) supply) ⌝ }
         ensures same { λ _. ⌜ name (now (self .exit) .sheet) ≡ name (now (self .entry) .sheet) ⌝ }
+        ensures kept { λ _. ⌜ now (now (self .exit) .sheet) ≡ now (now (self .entry) .sheet) ⌝ }
     {
         self.draft.feed(supply)
     }
@@ -65,6 +66,7 @@ impl Laying<'_> {
         ensures answer { λ r. ⌜ errPart r ≡ lay-refusal (sketch-of (now (self .entry) .draft)) tail head ⌝ }
         ensures after { λ _. ⌜ sketch-of (now (self .exit) .draft) ≡ kept-or (sketch-of (now (self .entry) .draft)) (lay-refusal (sketch-of (now (self .entry) .draft)) tail head) (with-arc (sketch-of (now (self .entry) .draft)) tail head) ⌝ }
         ensures same { λ _. ⌜ name (now (self .exit) .sheet) ≡ name (now (self .entry) .sheet) ⌝ }
+        ensures kept { λ _. ⌜ now (now (self .exit) .sheet) ≡ now (now (self .entry) .sheet) ⌝ }
     {
         self.draft.lay(tail, head)
     }
