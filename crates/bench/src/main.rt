@@ -1,4 +1,6 @@
 // The program `bench`: settles networks of growing size and prints the charge of each; with the argument `time` also how long it took.
+#![tactic(auto)]
+
 mod kinds;
 mod measure;
 mod networks;

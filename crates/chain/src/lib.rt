@@ -3,5 +3,7 @@
 //
 // `calls` has the calls that may change an opened book or its costs, and `replaying` makes a list of them.
 
+#![tactic(auto)]
+
 pub mod calls;
 pub mod replaying;

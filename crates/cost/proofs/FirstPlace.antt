@@ -1,5 +1,5 @@
 -- The first place at which a test passes: it passes there and nowhere before, and no place is given where it passes nowhere.
-use Rattle.std.proofs.Common.{◌≡◌, ℕ, zero, suc, ◌+◌, ◌-◌, ◌<◌, ◌≤◌, Bool, true, false, cond, Some, None, Option, sym, refl, ap, ◌∙◌, subst, arith, MatchOption}
+use Rattle.std.proofs.Common.{◌≡◌, ℕ, zero, suc, ◌+◌, ◌<◌, ◌≤◌, Bool, true, false, Some, None, Option, sym, refl, ap, subst, arith, MatchOption}
 use native.Mathlib.Decide.{ℕ_discrete}
 use Rattle.cost.specs.Places.{first_place_from, first_place, FirstPlaceIsFirst}
 

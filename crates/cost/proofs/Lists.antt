@@ -1,7 +1,6 @@
 -- What stands at a place of a list that is cut, mapped, repeated or made by counting; and rising lists.
-use Rattle.std.proofs.Common.{◌≡◌, ℕ, zero, suc, ◌+◌, ◌-◌, ◌<◌, ◌≤◌, min, Bool, true, false, cond, List, [], ◌∷◌, ◌++◌, map, length, get_or, take, drop, replicate, ℤ, pos, negsuc, ◌+ℤ◌, ◌-ℤ◌, ◌≤ℤ◌, ◌<ℤ◌, Some, None, Option, sym, refl, ap, ◌∙◌, add-one, arith}
+use Rattle.std.proofs.Common.{◌≡◌, ℕ, zero, suc, ◌+◌, ◌-◌, ◌<◌, ◌≤◌, min, Bool, true, false, cond, List, [], ◌∷◌, ◌++◌, map, length, get_or, take, replicate, ℤ, pos, negsuc, ◌+ℤ◌, ◌≤ℤ◌, ◌<ℤ◌, Some, None, Option, sym, refl, ap, ◌∙◌, add-one, arith}
 use native.Mathlib.Decide.{dec_le}
-use lib.ListN.{length-replicate}
 use lib.Signed.{le_z, le_z_yes}
 use borrow.Author.Differences.{up, down}
 use Rattle.std.specs.List.{slice_get, range_with_len}
@@ -10,7 +9,7 @@ use Rattle.std.proofs.lemmas.List.{take_all}
 use Rattle.std.proofs.lemmas.Option.{slice_get-get_or, slice_get_past}
 use Rattle.std.proofs.lemmas.List.FromFn.{length-map-range_with_len, get_or-map-range_with_len}
 use Rattle.std.proofs.lemmas.Int.{ints}
-use Rattle.cost.specs.Meaning.{Meaning, natural, total, beyond, last, increment_at, Rising, Lawful, empty_cost}
+use Rattle.cost.specs.Meaning.{Meaning, natural, total, beyond, last, increment_at, Lawful, empty_cost}
 
 by_le : {P : Type 0} (m n : ℕ) → (m ≤ n → P) → (n < m → P) → P
 by_le m n low high = elim (dec_le m n) [ yes p ↦ low p | no q ↦ high (omega arith) ]

@@ -1,11 +1,11 @@
 -- What it says that no condition of several refuses, and that a number is not refused by its limits.
-use Rattle.std.proofs.Common.{◌≡◌, ℕ, ◌<◌, Bool, true, false, cond, not, ◌&&◌, List, length, get_or, ℤ, pos, ◌≤ℤ◌, is_some, is_ok, IfOk, Some, None, Ok, Err, Option, Result, sym, refl, subst, arith}
+use Rattle.std.proofs.Common.{◌≡◌, ℕ, ◌<◌, Bool, true, false, cond, not, ◌&&◌, List, length, get_or, ℤ, pos, is_some, is_ok, IfOk, Some, None, Option, Result, sym, refl, subst, arith}
 use lib.Signed.{le_z}
 use Rattle.std.specs.Option.{option_map}
 use Rattle.std.specs.Result.{result_err}
 use Rattle.std.proofs.lemmas.Int.{ints}
 use Rattle.cost.specs.Meaning.{Between}
-use Rattle.cost.specs.Places.{first_place, or_else, unless, kept_or}
+use Rattle.cost.specs.Places.{or_else, unless, kept_or}
 use Rattle.cost.specs.Limits.{within, outside, outside_each, first_outside}
 use Rattle.cost.specs.declared.numbers.Limits.{Limits}
 use Rattle.cost.specs.declared.numbers.NumberFault.TheVariants.{Outside}

@@ -1,6 +1,6 @@
 -- A row of nineteen numbers takes a further number while it has room, and then stays as it is.
 use Rattle.std.proofs.Common.{◌≡◌, ℕ, ◌+◌, ◌<◌, ◌≤◌, List, [], ◌∷◌, ◌++◌, length, get_or, take, set, ℤ, pos, sym, ap, ◌∙◌, arith}
-use Rattle.std.proofs.lemmas.List.{append_assoc, append-nil, length-take, length-take-le, length_push, take_all, take-append-le, take_more, take_more_set}
+use Rattle.std.proofs.lemmas.List.{append_assoc, append-nil, length-take, length_push, take_all, take-append-le, take_more, take_more_set}
 use Rattle.cost.proofs.Lists.{take_front}
 
 module _ (xs : List ℤ) (n : ℕ) (long : length xs ≡ 19) where

@@ -5,7 +5,7 @@ use Rattle.cost.specs.declared.numbers.NumberFault.TheVariants.{Outside}
 use Rattle.cost.specs.declared.refusals.CostFault.{CostFault}
 use Rattle.cost.specs.declared.refusals.CostFault.TheVariants.{Number, Pieces, Long, Falls, Steep}
 use Rattle.cost.specs.declared.refusals.Layer.{Layer}
-use Rattle.cost.specs.declared.refusals.Layer.TheVariants.{Cost, Draft, Sheet, Record}
+use Rattle.cost.specs.declared.refusals.Layer.TheVariants.{Cost}
 use Rattle.cost.specs.declared.refusals.Refusal.{Refusal}
 
 -- A refusal by its three parts.

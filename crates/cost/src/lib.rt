@@ -4,6 +4,8 @@
 // trait that every kind of cost keeps, `written` the trait of those kinds that stand in a text as a row of numbers.
 // `laws` states what follows from these. Each kind of cost has a crate of its own.
 
+#![tactic(auto)]
+
 pub mod costs;
 pub mod laws;
 pub mod numbers;

@@ -1,5 +1,7 @@
 // The program `exhaustive`: makes small networks of each kind of cost, settles them, edits them and settles them again, and compares each
 // answer with what trying every routing gives.
+#![tactic(auto)]
+
 mod compare;
 mod kinds;
 mod networks;

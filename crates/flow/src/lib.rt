@@ -5,6 +5,8 @@
 // node to node over the lists of `near`, `push` moves an amount along the way that was found, `surpluses` keeps account,
 // and `meet` does so until no surplus is left.
 
+#![tactic(auto)]
+
 mod explore;
 pub mod meet;
 pub mod near;

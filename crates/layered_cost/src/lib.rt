@@ -1,3 +1,5 @@
 // Cap and ceiling, the costs that stand over any other cost.
 
+#![tactic(auto)]
+
 pub mod layers;

@@ -4,6 +4,8 @@
 // book and what each call on it answers and leaves. `faults` has what is refused, `standing` the three standings and what
 // moves them, `pricing` charge and floor over nodes and arcs, and `settling` what settle refuses beforehand and answers.
 
+#![tactic(auto)]
+
 pub mod faults;
 pub mod pricing;
 pub mod settling;

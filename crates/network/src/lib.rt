@@ -5,6 +5,8 @@
 // `theorems` has what holds of every network: no floor passes a charge, equal means cheapest, and a set that is over
 // full bars every routing. `records` has nodes and arcs; `routing`, `charge` and `floor` compute what specs/ defines.
 
+#![tactic(auto)]
+
 pub mod charge;
 pub mod floor;
 pub mod records;

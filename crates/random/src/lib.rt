@@ -1,6 +1,8 @@
 // Numbers that look random and are the same in each run, for the programs that make networks.
 //
 // An inner crate: its functions are called by these programs alone, so they may require what those know.
+#![tactic(auto)]
+
 ghost use Rattle.std.specs.Prelude.{◌≡◌, ◌<◌, pos, negsuc, ◌+ℤ◌, ◌-ℤ◌, ◌≤ℤ◌};
 ghost use Rattle.random.specs.Draws.{advanced, drawn, drawn_between};
 

@@ -4,6 +4,8 @@
 // `faults` has what reading and writing refuse. `drafts` reads the first four lines into a draft, `rows` the lines of the
 // costs, and `reading` the whole text. `outlines` has what is written of a book, and `writing` writes the whole text.
 
+#![tactic(auto)]
+
 mod drafts;
 pub mod faults;
 mod outlines;

@@ -3,5 +3,7 @@
 // This is an inner crate: its functions are called by the crate above it alone. `lines` reads one line in one step, and
 // gives the offset of the first byte that is not of the form. `setting` writes one line into bytes that are lent.
 
+#![tactic(auto)]
+
 pub mod lines;
 pub mod setting;

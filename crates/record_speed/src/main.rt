@@ -1,5 +1,7 @@
 // A benchmark: writes the largest record, 64 nodes and 256 arcs with eight pieces each, and reads it 200 times. Run it
 // under `time` to see what a reading takes.
+#![tactic(auto)]
+
 use anyhow::anyhow;
 use record::reading::read;
 use record::writing::write;

@@ -1,6 +1,8 @@
 // Examples of records, run as tests: each line of the form broken in each way, every refusal from below, and records that
 // are read, written and read again.
 
+#![tactic(auto)]
+
 #[cfg(test)]
 mod below;
 #[cfg(test)]

@@ -1,4 +1,6 @@
 // The program `route`: reads the record of a network from standard input, and prints a cheapest routing or why there is none.
+#![tactic(auto)]
+
 mod answers;
 mod input;
 #[cfg(test)]

@@ -4,6 +4,8 @@
 // the loads of each arc that are slack near its tension, `improve` raises prices until some routing is slack, `draw` draws
 // the prices together, and `settle` is the search as a whole.
 
+#![tactic(auto)]
+
 mod draw;
 mod improve;
 mod narrow;

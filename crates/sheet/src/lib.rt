@@ -2,4 +2,6 @@
 //
 // `sheets` has the sheet in memory, with its calls: the draft, look-ups, charge and floor, edits, and settle.
 
+#![tactic(auto)]
+
 pub mod sheets;

@@ -1,6 +1,8 @@
 // Examples of drafts, look-ups, charges, floors, edits, settlings and chains of calls, run as tests: each refusal on either side of
 // its edge, and the order where two conditions hold.
 
+#![tactic(auto)]
+
 #[cfg(test)]
 mod chains;
 #[cfg(test)]

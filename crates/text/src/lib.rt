@@ -5,6 +5,8 @@
 // form. `writing` writes bytes and numbers into bytes that are lent. `theorems` asserts that what is written reads
 // back, and that only what is written is read.
 
+#![tactic(auto)]
+
 pub mod cursor;
 mod fields;
 mod numerals;

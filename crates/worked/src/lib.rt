@@ -1,4 +1,6 @@
 // Worked cases of the definitions, proved together as one assertion.
+#![tactic(auto)]
+
 ghost use Rattle.std.specs.List.{AllByRecursion as All};
 ghost use Rattle.worked.specs.Cases.{Holds, worked_cases};
 

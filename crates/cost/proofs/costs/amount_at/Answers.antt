@@ -13,8 +13,8 @@ unwrap-amount-requires g c =
     let e = increment_below m c.loop-below.below (omega (arith, ints, c.loop-below.invariant.0)) (omega (arith, ints, c.loop-below.invariant.0)) in
     search rules
 
-pub overflow-add-amount : goal.overflow-add-amount
-overflow-add-amount g c =
+pub overflow_add-amount : goal.overflow_add-amount
+overflow_add-amount g c =
     let m = g.C.Cost.meaning c.args.cost.now in
     let x = c.loop-below.below in
     let at : c.loop-below.amount ≡ amount_at m x = search rules in
@@ -28,7 +28,7 @@ loop-below-preserved g c =
     let at : c.loop-below.amount ≡ amount_at m x = search rules in
     let step = step_up m x c.unwrap-amount.result (g.met.C.Cost.lawful c.args.cost.now) (search rules) in
     let load : SFits w64 (x +ℤ pos 1) = omega (arith, ints, c.loop-below.invariant.0) in
-    let fits = overflow-add-amount g c in
+    let fits = overflow_add-amount g c in
     search rules
 
 pub returns : goal.returns
