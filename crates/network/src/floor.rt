@@ -1,9 +1,10 @@
 // What prices promise: no routing that meets the network is charged less than their floor.
-ghost use Rattle.std.specs.Prelude.{◌≡◌, ◌<◌, map, length, pos, negsuc, ◌-ℤ◌, ◌*ℤ◌};
+ghost use Rattle.std.specs.Prelude.{◌≡◌, ◌<◌, map, length, pos, negsuc, ◌-ℤ◌, ◌*ℤ◌, ◌≤ℤ◌};
 ghost use Rattle.cost.specs.Meaning.{Between};
-ghost use Rattle.network.specs.Network.{least, floor};
-ghost use Rattle.network.specs.Records.{net_of, numbers, Sound, Within};
+ghost use Rattle.network.specs.Network.{Meets, charge, least, floor};
+ghost use Rattle.network.specs.Records.{net_of, numbers, Sound, Within, Ranged};
 
+use crate::charge::charge_of;
 use crate::records::{Arc, Node};
 use cost::costs::Cost;
 
@@ -64,4 +65,27 @@ pub fn floor_of<C: Cost>(nodes: &[Node], arcs: &[Arc], costs: &[C], prices: &[i6
         floor += least_of(cost, arcs[a].tension(prices));
     }
     floor
+}
+
+// The floor of the prices and the charge of the loads. Where the loads meet the network, the floor is at most the charge.
+pub fn floor_and_charge<C: Cost>(
+    nodes: &[Node],
+    arcs: &[Arc],
+    costs: &[C],
+    loads: &[i64],
+    prices: &[i64],
+) -> (i64, i64)
+    requires sound { Sound nodes.now arcs.now }
+    requires costed { length costs.now ≡ length arcs.now }
+    requires loaded { length loads.now ≡ length arcs.now }
+    requires ranges { Ranged (map C.Cost.meaning costs.now) loads.now }
+    requires priced { length prices.now ≡ length nodes.now }
+    requires limits { Within 100000000 prices.now }
+    ensures promised { result.0 ≡ floor (net_of nodes.now arcs.now (map C.Cost.meaning costs.now)) (numbers prices.now) }
+    ensures charged { result.1 ≡ charge (net_of nodes.now arcs.now (map C.Cost.meaning costs.now)) (numbers loads.now) }
+    ensures duality { Meets (net_of nodes.now arcs.now (map C.Cost.meaning costs.now)) (numbers loads.now) → result.0 ≤ℤ result.1 }
+{
+    let floor = floor_of(nodes, arcs, costs, prices);
+    let charge = charge_of(costs, loads);
+    (floor, charge)
 }

@@ -1,23 +1,38 @@
-// What holds of every network. Each function asserts theorems by its contract and does nothing.
+// What holds of every network. Each function asserts one theorem by its contract and does nothing.
 ghost use Rattle.network.specs.Theorems.{Identity, Conservation, LeastIsReached, WeakDuality, Slackness, EqualIsBest, EqualExactlyWhenBest, OverFullBars, ClosedIsOverFull};
 
-// Prices, surpluses and tensions are in balance.
-pub fn balance_holds()
-    ensures identity { Identity }
-    ensures conservation { Conservation }
+pub fn surpluses_are_supplies_less_tensions()
+    ensures { Identity }
 {}
 
-// No floor passes a charge, and equal amounts are what cheapest means.
-pub fn duality_holds()
-    ensures least { LeastIsReached }
-    ensures weak { WeakDuality }
-    ensures slack { Slackness }
-    ensures equal { EqualIsBest }
-    ensures exactly { EqualExactlyWhenBest }
+pub fn surpluses_sum_to_supplies()
+    ensures { Conservation }
 {}
 
-// A set that is over full bars every routing, and a closed set with a surplus is over full.
-pub fn cuts_hold()
-    ensures bars { OverFullBars }
-    ensures closed { ClosedIsOverFull }
+pub fn least_is_reached()
+    ensures { LeastIsReached }
+{}
+
+pub fn floor_never_passes_charge()
+    ensures { WeakDuality }
+{}
+
+pub fn slack_loads_reach_the_floor()
+    ensures { Slackness }
+{}
+
+pub fn equal_is_best()
+    ensures { EqualIsBest }
+{}
+
+pub fn equal_exactly_when_best()
+    ensures { EqualExactlyWhenBest }
+{}
+
+pub fn over_full_bars()
+    ensures { OverFullBars }
+{}
+
+pub fn closed_is_over_full()
+    ensures { ClosedIsOverFull }
 {}

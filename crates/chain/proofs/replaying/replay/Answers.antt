@@ -12,8 +12,8 @@ use Rattle.chain.proofs.replaying.replay.Goals as goal
 pub loop-call-preserved : goal.loop-call-preserved
 loop-call-preserved g c =
     reached_more g.C.Cost.meaning (record { book = book_of c.args.sheet.now; costs = c.args.costs.now }) c.args.calls.now c.loop-call.call-index c.call-item.result c.loop-call-test.true c.call-item.is
-    (book_of c.loop-call.sheet) (book_of c.make-so-far.new.sheet) c.loop-call.costs c.make-so-far.new.costs c.loop-call.so_far c.make-so-far.result (sheet_sound c.loop-call.sheet)
-    c.loop-call.invariant c.make-so-far.ensures
+    (book_of c.loop-call.sheet) (book_of c.make-so_far.new.sheet) c.loop-call.costs c.make-so_far.new.costs c.loop-call.so_far c.make-so_far.result (sheet_sound c.loop-call.sheet)
+    c.loop-call.invariant c.make-so_far.ensures
 
 pub returns-in-Some : goal.returns-in-Some
 returns-in-Some g c =

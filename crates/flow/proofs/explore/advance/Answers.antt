@@ -5,13 +5,13 @@ use Rattle.flow.proofs.Queuing.{joined}
 use Rattle.flow.proofs.explore.advance.Goals as goal
 
 pub add-requires : goal.add-requires
-add-requires c = omega (arith, c.step-over.ensures.further c.if-step-over.true, c.requires.queued.room, c.requires.ready.sound.node_limit)
+add-requires c = omega (arith, c.step_over.ensures.further c.if-step_over.true, c.requires.queued.room, c.requires.ready.sound.node_limit)
 
-pub returns-then-step-over : goal.returns-then-step-over
-returns-then-step-over c = record {
-  labelled = c.step-over.ensures.labelled;
-  queued = joined c.args.labels.now c.args.queue.now c.add.new.queue c.end-of.result c.add.ensures.count c.add.ensures.places
-      (length c.args.nodes.now) c.step-over.new.labels c.requires.ready.sound.node_limit
-      (omega (arith, c.end-of.ensures, end_in c.args.nodes.now c.args.arcs.now c.args.lows.now c.args.highs.now c.args.loads.now c.requires.ready c.args.arc c.requires.place c.args.forward))
-      c.requires.queued (c.step-over.ensures.further c.if-step-over.true);
+pub returns-then-step_over : goal.returns-then-step_over
+returns-then-step_over c = record {
+  labelled = c.step_over.ensures.labelled;
+  queued = joined c.args.labels.now c.args.queue.now c.add.new.queue c.end_of.result c.add.ensures.count c.add.ensures.places
+      (length c.args.nodes.now) c.step_over.new.labels c.requires.ready.sound.node_limit
+      (omega (arith, c.end_of.ensures, end_in c.args.nodes.now c.args.arcs.now c.args.lows.now c.args.highs.now c.args.loads.now c.requires.ready c.args.arc c.requires.place c.args.forward))
+      c.requires.queued (c.step_over.ensures.further c.if-step_over.true);
 }

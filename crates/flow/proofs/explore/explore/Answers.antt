@@ -2,8 +2,8 @@
 use Rattle.std.proofs.Common.{arith}
 use Rattle.flow.proofs.explore.explore.Goals as goal
 
-pub offset-bounds-surpluses-node : goal.offset-bounds-surpluses-node
-offset-bounds-surpluses-node c = omega (arith, c.loop-turn.invariant.1.placed c.loop-turn.turn (omega arith), c.requires.ready.sound.node_limit)
+pub offset_bounds-surpluses-node : goal.offset_bounds-surpluses-node
+offset_bounds-surpluses-node c = omega (arith, c.loop-turn.invariant.1.placed c.loop-turn.turn (omega arith), c.requires.ready.sound.node_limit)
 
 pub bounds-surpluses-node : goal.bounds-surpluses-node
 bounds-surpluses-node c = omega (arith, c.loop-turn.invariant.1.placed c.loop-turn.turn (omega arith), c.requires.told)

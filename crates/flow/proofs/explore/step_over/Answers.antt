@@ -14,9 +14,9 @@ returns c =
     let low = fits.0 in
     let high = fits.1 in
     let load = fits.2 in
-    let is : c.room-on-room.result ≡ room_on c.args.forward (numbers c.args.lows.now a) (numbers c.args.highs.now a) (numbers c.args.loads.now a) = simp to_z-of_z at c.room-on-room.ensures in
-    let room : SFits w64 c.room-on-room.result = rw is (room_fits c.args.nodes.now c.args.arcs.now c.args.lows.now c.args.highs.now c.args.loads.now c.requires.ready a c.requires.place c.args.forward) in
+    let is : c.room_on-room.result ≡ room_on c.args.forward (numbers c.args.lows.now a) (numbers c.args.highs.now a) (numbers c.args.loads.now a) = simp to_z-of_z at c.room_on-room.ensures in
+    let room : SFits w64 c.room_on-room.result = rw is (room_fits c.args.nodes.now c.args.arcs.now c.args.lows.now c.args.highs.now c.args.loads.now c.requires.ready a c.requires.place c.args.forward) in
     let grown = stepped_over c.args.nodes.now c.args.arcs.now c.args.lows.now c.args.highs.now c.args.loads.now c.requires.ready a c.requires.place c.args.forward
-    c.args.labels.now c.extend.new.labels c.start-of-from.result c.end-of-to.result c.room-on-room.result c.extend.result c.requires.labels
-    c.start-of-from.ensures c.end-of-to.ensures is (simp to_z-of_z at c.extend.ensures.answer) (simp to_z-of_z at c.extend.ensures.labelled) in
+    c.args.labels.now c.extend.new.labels c.start_of-from.result c.end_of-to.result c.room_on-room.result c.extend.result c.requires.labels
+    c.start_of-from.ensures c.end_of-to.ensures is (simp to_z-of_z at c.extend.ensures.answer) (simp to_z-of_z at c.extend.ensures.labelled) in
     record { labelled = grown.labelled; further = grown.fewer; same = grown.same }

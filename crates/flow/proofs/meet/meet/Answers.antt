@@ -13,7 +13,7 @@ returns c = record {
     held = c.loop-over.invariant.0.held;
     balanced = none_over (net_of c.args.nodes.now c.args.arcs.now []) (numbers c.loop-over.loads)
         (record { tails = c.requires.ready.sound.tails; heads = c.requires.ready.sound.heads }) c.requires.balanced
-        (λ v h. omega (arith, ints, c.in-default.ensures v h, c.loop-over.invariant.1.told v h));
+        (λ v h. omega (arith, ints, c.in_default.ensures v h, c.loop-over.invariant.1.told v h));
   };
   barred = λ e. absurd (true≢false e);
 }

@@ -14,21 +14,21 @@ reach-requires c = record {
   told = c.requires.tells.long;
   near = c.requires.near;
   labels = labelled_sources c.args.nodes.now c.args.arcs.now c.args.lows.now c.args.highs.now c.args.loads.now c.args.surpluses.now c.requires.ready c.requires.tells
-      c.label-sources.new.labels (omega arith) c.label-sources.ensures;
+      c.label_sources.new.labels (omega arith) c.label_sources.ensures;
 }
 
-pub returns-in-default : goal.returns-in-default
-returns-in-default c = record {
+pub returns-in_default : goal.returns-in_default
+returns-in_default c = record {
   ready = c.requires.ready;
   tells = c.requires.tells;
   less = λ e. absurd (false≢true e);
   barred = λ _.
-      let none = c.in-default.ensures.found in
+      let none = c.in_default.ensures.found in
       bars c.args.nodes.now c.args.arcs.now c.args.lows.now c.args.highs.now c.args.loads.now c.args.surpluses.now c.requires.ready c.requires.tells c.reach.new.labels c.reach.ensures.labelled c.args.over c.requires.place c.requires.above none.0 none.1;
 }
 
-pub overflow-sub-surpluses : goal.overflow-sub-surpluses
-overflow-sub-surpluses c =
+pub overflow_sub-surpluses : goal.overflow_sub-surpluses
+overflow_sub-surpluses c =
     let limit = surplus_limit c.args.nodes.now c.args.arcs.now c.args.lows.now c.args.highs.now c.args.loads.now c.args.surpluses.now c.requires.ready c.requires.tells c.in-Some.target c.in-Some.ensures.found.0 in
     omega (arith, ints)
 

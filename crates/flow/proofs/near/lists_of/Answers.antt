@@ -10,11 +10,11 @@ pub link-requires : goal.link-requires
 link-requires c =
     let tail = c.requires.tails c.loop-a.a (omega arith) in
     let head = c.requires.heads c.loop-a.a (omega arith) in
-    record { node = omega (arith, either c.args.forward _ _ (length c.args.nodes.now) tail head, c.requires.node_limit, c.start-of.ensures); arc = omega (arith, c.requires.arc_limit) }
+    record { node = omega (arith, either c.args.forward _ _ (length c.args.nodes.now) tail head, c.requires.node_limit, c.start_of.ensures); arc = omega (arith, c.requires.arc_limit) }
 
 pub loop-a-preserved : goal.loop-a-preserved
 loop-a-preserved c =
     let tail = c.requires.tails c.loop-a.a (omega arith) in
     let head = c.requires.heads c.loop-a.a (omega arith) in
-    listed_more c.loop-a.a c.start-of.result c.loop-a.lists c.link.new.lists c.loop-a.invariant
-    (omega (arith, either c.args.forward _ _ (length c.args.nodes.now) tail head, c.requires.node_limit, c.start-of.ensures)) (omega (arith, c.requires.arc_limit)) c.link.ensures.firsts c.link.ensures.nexts
+    listed_more c.loop-a.a c.start_of.result c.loop-a.lists c.link.new.lists c.loop-a.invariant
+    (omega (arith, either c.args.forward _ _ (length c.args.nodes.now) tail head, c.requires.node_limit, c.start_of.ensures)) (omega (arith, c.requires.arc_limit)) c.link.ensures.firsts c.link.ensures.nexts

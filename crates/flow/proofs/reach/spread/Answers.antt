@@ -5,8 +5,8 @@ use Rattle.flow.proofs.Marks.{pass_on}
 use Rattle.flow.proofs.Passes.{rooms_fit, pass_along, pass_against}
 use Rattle.flow.proofs.reach.spread.Goals as goal
 
-pub overflow-sub-loads : goal.overflow-sub-loads
-overflow-sub-loads c = let fits = rooms_fit c.args.nodes.now c.args.arcs.now c.args.lows.now c.args.highs.now c.args.loads.now c.requires.ready c.loop-a.a (omega arith) in omega (arith, ints)
+pub overflow_sub-loads : goal.overflow_sub-loads
+overflow_sub-loads c = let fits = rooms_fit c.args.nodes.now c.args.arcs.now c.args.lows.now c.args.highs.now c.args.loads.now c.requires.ready c.loop-a.a (omega arith) in omega (arith, ints)
 
 pub extend-against-requires : goal.extend-against-requires
 extend-against-requires c =

@@ -7,10 +7,10 @@ use Rattle.search.specs.Settled.{prices_of}
 use Rattle.ledger.proofs.Parts.{written_front}
 use Rattle.ledger.proofs.settling.floor_held.Goals as goal
 
-pub floor-of-requires : goal.floor-of-requires
-floor-of-requires g c =
+pub floor_of-requires : goal.floor_of-requires
+floor_of-requires g c =
     let nodes = c.args.nodes.now in
-    let front = written_front (length nodes) c.list-prices.new.prices (prices_of nodes) (omega (arith, c.list-prices.auto.prices, c.requires.sound.node_limit)) c.list-prices.ensures in
+    let front = written_front (length nodes) c.list_prices.new.prices (prices_of nodes) (omega (arith, c.list_prices.auto.prices, c.requires.sound.node_limit)) c.list_prices.ensures in
     record {
       sound = c.requires.sound;
       costed = c.requires.costed;
@@ -23,7 +23,7 @@ returns g c =
     let nodes = c.args.nodes.now in
     let arcs = c.args.arcs.now in
     let costs = map g.C.Cost.meaning c.args.costs.now in
-    let prices = take (length nodes - 0) c.list-prices.new.prices in
-    let front = written_front (length nodes) c.list-prices.new.prices (prices_of nodes) (omega (arith, c.list-prices.auto.prices, c.requires.sound.node_limit)) c.list-prices.ensures in
+    let prices = take (length nodes - 0) c.list_prices.new.prices in
+    let front = written_front (length nodes) c.list_prices.new.prices (prices_of nodes) (omega (arith, c.list_prices.auto.prices, c.requires.sound.node_limit)) c.list_prices.ensures in
     let same = floor_same (net_of nodes arcs costs) (numbers prices) (prices_of nodes) (sound_ends nodes arcs costs c.requires.sound) front.1 in
     search rules

@@ -3,8 +3,8 @@ use Rattle.std.proofs.Common.{rules}
 use Rattle.ledger.proofs.Supplies.{supply_gathers}
 use Rattle.ledger.proofs.settling.sum_of_supplies.Goals as goal
 
-pub overflow-add-sum : goal.overflow-add-sum
-overflow-add-sum c =
+pub overflow_add-sum : goal.overflow_add-sum
+overflow_add-sum c =
     let on = supply_gathers c.args.nodes.now c.args.arcs.now c.requires c.loop-node.node-index c.loop-node-test.true in
     search rules
 

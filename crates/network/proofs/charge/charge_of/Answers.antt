@@ -24,8 +24,8 @@ step g c =
     let here : c.unwrap-charge.result ≡ amount_of costs loads a = search rules in
     rw here (charge_gathers costs loads (λ k h. each_cost g.C.Cost.meaning Lawful g.met.C.Cost.lawful c.args.costs.now k (omega arith)) c.requires.limit c.requires.ranges a (omega arith))
 
-pub overflow-add-charge : goal.overflow-add-charge
-overflow-add-charge g c = let on = step g c in search rules
+pub overflow_add-charge : goal.overflow_add-charge
+overflow_add-charge g c = let on = step g c in search rules
 
 pub loop-a-preserved : goal.loop-a-preserved
 loop-a-preserved g c = let on = step g c in search rules

@@ -9,11 +9,11 @@ use Rattle.network.proofs.floor.least_of.Goals as goal
 begin : (g : given.Over) (cost : g.row.C.Denot) (t : ℤ) → Tension t → Starts (g.C.Cost.meaning cost) t
 begin g cost t tense = starts (g.C.Cost.meaning cost) t (g.met.C.Cost.lawful cost) tense
 
-pub overflow-mul-reduced : goal.overflow-mul-reduced
-overflow-mul-reduced g c = let start = begin g c.args.cost.now c.args.tension c.requires in search rules
+pub overflow_mul-reduced : goal.overflow_mul-reduced
+overflow_mul-reduced g c = let start = begin g c.args.cost.now c.args.tension c.requires in search rules
 
-pub overflow-sub-reduced : goal.overflow-sub-reduced
-overflow-sub-reduced g c = let start = begin g c.args.cost.now c.args.tension c.requires in search rules
+pub overflow_sub-reduced : goal.overflow_sub-reduced
+overflow_sub-reduced g c = let start = begin g c.args.cost.now c.args.tension c.requires in search rules
 
 pub loop-load-init : goal.loop-load-init
 loop-load-init g c = let start = begin g c.args.cost.now c.args.tension c.requires in search rules
@@ -28,11 +28,11 @@ go g c =
     goes_on (g.C.Cost.meaning c.args.cost.now) c.args.tension c.loop-load.load c.loop-load.reduced c.unwrap-increment.result
     (g.met.C.Cost.lawful c.args.cost.now) c.requires (search rules) (search rules) (omega (arith, ints))
 
-pub overflow-sub-reduced-in-loop-load : goal.overflow-sub-reduced-in-loop-load
-overflow-sub-reduced-in-loop-load g c = let on = go g c in search rules
+pub overflow_sub-reduced-in-loop-load : goal.overflow_sub-reduced-in-loop-load
+overflow_sub-reduced-in-loop-load g c = let on = go g c in search rules
 
-pub overflow-add-reduced : goal.overflow-add-reduced
-overflow-add-reduced g c = let on = go g c in search rules
+pub overflow_add-reduced : goal.overflow_add-reduced
+overflow_add-reduced g c = let on = go g c in search rules
 
 pub loop-load-preserved : goal.loop-load-preserved
 loop-load-preserved g c = let on = go g c in search rules

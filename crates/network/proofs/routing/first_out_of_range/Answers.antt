@@ -6,8 +6,8 @@ use Rattle.network.specs.Records.{cost_of, numbers}
 use Rattle.network.proofs.Costs.{cost_read}
 use Rattle.network.proofs.routing.first_out_of_range.Goals as goal
 
-pub returns-then-not-in-range : goal.returns-then-not-in-range
-returns-then-not-in-range g c =
+pub returns-then-not-in_range : goal.returns-then-not-in_range
+returns-then-not-in_range g c =
     let costs = map g.C.Cost.meaning c.args.costs.now in
     let loads = c.args.loads.now in
     let a = c.loop-a.a in

@@ -5,8 +5,8 @@ use Rattle.network.specs.Network.{surplus}
 use Rattle.network.specs.Records.{net_of, numbers, is_zero}
 use Rattle.network.proofs.routing.first_unmet.Goals as goal
 
-pub returns-then-surplus-at-ne0 : goal.returns-then-surplus-at-ne0
-returns-then-surplus-at-ne0 c =
+pub returns-then-surplus_at-ne0 : goal.returns-then-surplus_at-ne0
+returns-then-surplus_at-ne0 c =
     let net = net_of c.args.nodes.now c.args.arcs.now [] in
     let load = numbers c.args.loads.now in
     let node = c.loop-node.node in

@@ -10,8 +10,8 @@ step : (c : goal.After-gain-surplus)
     (gain_of (net_of c.args.nodes.now c.args.arcs.now []) (numbers c.args.loads.now) c.args.node c.loop-a.a)
 step c = surplus_gathers c.args.nodes.now c.args.arcs.now c.args.loads.now c.requires.sound c.requires.loaded c.requires.limits c.args.node c.requires.place c.loop-a.a c.loop-a-test.true
 
-pub overflow-add-surplus : goal.overflow-add-surplus
-overflow-add-surplus c = let on = step c in search rules
+pub overflow_add-surplus : goal.overflow_add-surplus
+overflow_add-surplus c = let on = step c in search rules
 
 pub loop-a-preserved : goal.loop-a-preserved
 loop-a-preserved c = let on = step c in search rules

@@ -6,10 +6,10 @@ use Rattle.record.proofs.Handing.{fed_more, fed_refused, fed_all}
 use Rattle.record.proofs.Below.{draft_met, draft_refused}
 use Rattle.record.proofs.drafts.feed_all.Goals as goal
 
-pub returns-in-err-draft : goal.returns-in-err-draft
-returns-in-err-draft c =
-    let p = err_from_is_err_and c.from-residual.result c.from-residual.ensures.1 in
-    let met = draft_refused _ c.feed.result c.in-err-draft.ensures in
+pub returns-in_err-draft : goal.returns-in_err-draft
+returns-in_err-draft c =
+    let p = err_from_is_err_and c.from_residual.result c.from_residual.ensures.1 in
+    let met = draft_refused _ c.feed.result c.in_err-draft.ensures in
     let fits : SFits w64 (get_or c.args.supplies.now c.loop-i.i (pos 0)) = search rules in
     let answer = simp to_z-of_z at c.feed.ensures.answer in
     let all = c.loop-i.invariant ∙ fed_refused _ _ _ c.loop-i-test.true (sym answer ∙ met.1) in
@@ -17,7 +17,7 @@ returns-in-err-draft c =
 
 pub loop-i-preserved : goal.loop-i-preserved
 loop-i-preserved c =
-    let met = draft_met _ c.feed.result c.in-ok-draft.ensures in
+    let met = draft_met _ c.feed.result c.in_ok-draft.ensures in
     let fits : SFits w64 (get_or c.args.supplies.now c.loop-i.i (pos 0)) = search rules in
     let answer = simp to_z-of_z at c.feed.ensures.answer in
     let after = simp to_z-of_z at c.feed.ensures.after in

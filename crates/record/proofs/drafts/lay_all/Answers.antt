@@ -6,10 +6,10 @@ use Rattle.record.proofs.Handing.{laid_more, laid_refused, laid_all}
 use Rattle.record.proofs.Below.{draft_met, draft_refused}
 use Rattle.record.proofs.drafts.lay_all.Goals as goal
 
-pub returns-in-err-draft : goal.returns-in-err-draft
-returns-in-err-draft c =
-    let p = err_from_is_err_and c.from-residual.result c.from-residual.ensures.1 in
-    let met = draft_refused _ c.lay.result c.in-err-draft.ensures in
+pub returns-in_err-draft : goal.returns-in_err-draft
+returns-in_err-draft c =
+    let p = err_from_is_err_and c.from_residual.result c.from_residual.ensures.1 in
+    let met = draft_refused _ c.lay.result c.in_err-draft.ensures in
     let tail : SFits w64 (get_or c.args.tails.now c.loop-i.i (pos 0)) = search rules in
     let head : SFits w64 (get_or c.args.heads.now c.loop-i.i (pos 0)) = search rules in
     let there : c.loop-i.i < length c.args.heads.now = omega arith in
@@ -19,7 +19,7 @@ returns-in-err-draft c =
 
 pub loop-i-preserved : goal.loop-i-preserved
 loop-i-preserved c =
-    let met = draft_met _ c.lay.result c.in-ok-draft.ensures in
+    let met = draft_met _ c.lay.result c.in_ok-draft.ensures in
     let tail : SFits w64 (get_or c.args.tails.now c.loop-i.i (pos 0)) = search rules in
     let head : SFits w64 (get_or c.args.heads.now c.loop-i.i (pos 0)) = search rules in
     let there : c.loop-i.i < length c.args.heads.now = omega arith in

@@ -10,15 +10,15 @@ use Rattle.record.proofs.Below.{draft_met, draft_refused, draft_value}
 use Rattle.record.proofs.Stages.{net_form, net_read, no_room, no_size, begins, begun_long, counted, few_enough, same_start, too_many}
 use Rattle.record.proofs.drafts.net_line.Goals as goal
 
-pub returns-in-err-counts : goal.returns-in-err-counts
-returns-in-err-counts g c =
-    let p = err_from_is_err_and c.from-residual.result c.from-residual.ensures.1 in
-    rw (p.1, p.2) (record { shown = sym (net_form _ _ _ c.sign.ensures (call_refused refl c.in-err-counts.ensures.step)); nodes = tt; arcs = tt })
+pub returns-in_err-counts : goal.returns-in_err-counts
+returns-in_err-counts g c =
+    let p = err_from_is_err_and c.from_residual.result c.from_residual.ensures.1 in
+    rw (p.1, p.2) (record { shown = sym (net_form _ _ _ c.sign.ensures (call_refused refl c.in_err-counts.ensures.step)); nodes = tt; arcs = tt })
 
 pub returns-then-places-arcs : goal.returns-then-places-arcs
 returns-then-places-arcs g c =
-    let counts = c.in-ok-counts.counts in
-    let told = c.in-ok-counts.ensures in
+    let counts = c.in_ok-counts.counts in
+    let told = c.in_ok-counts.ensures in
     let more : SFits w64 counts.arcs = search rules in
     let arcs = counted counts.arcs told.arcs.0 in
     let beyond = simp to_z-of_z at c.if-places-arcs.true in
@@ -29,12 +29,12 @@ returns-then-places-arcs g c =
       arcs = tt;
     })
 
-pub returns-in-err-size : goal.returns-in-err-size
-returns-in-err-size g c =
-    let p = err_from_is_err_and c.from-residual-in-err-size.result c.from-residual-in-err-size.ensures.1 in
-    let met = draft_refused _ c.size.result c.in-err-size.ensures in
-    let counts = c.in-ok-counts.counts in
-    let told = c.in-ok-counts.ensures in
+pub returns-in_err-size : goal.returns-in_err-size
+returns-in_err-size g c =
+    let p = err_from_is_err_and c.from_residual-in_err-size.result c.from_residual-in_err-size.ensures.1 in
+    let met = draft_refused _ c.size.result c.in_err-size.ensures in
+    let counts = c.in_ok-counts.counts in
+    let told = c.in_ok-counts.ensures in
     let some : SFits w64 counts.nodes = search rules in
     let more : SFits w64 counts.arcs = search rules in
     let answer = simp to_z-of_z at c.size.ensures.answer in
@@ -48,8 +48,8 @@ returns-in-err-size g c =
 
 pub returns : goal.returns
 returns g c =
-    let counts = c.in-ok-counts.counts in
-    let told = c.in-ok-counts.ensures in
+    let counts = c.in_ok-counts.counts in
+    let told = c.in_ok-counts.ensures in
     let some : SFits w64 counts.nodes = search rules in
     let more : SFits w64 counts.arcs = search rules in
     let arcs = counted counts.arcs told.arcs.0 in
@@ -57,10 +57,10 @@ returns g c =
     let answer = simp to_z-of_z at c.size.ensures.answer in
     let within = simp to_z-of_z at c.if-places-arcs.false in
     let room : leb (natural counts.arcs) c.args.places ≡ true = few_enough counts.arcs c.args.places told.arcs.0 within in
-    let size = c.in-ok-size.size in
+    let size = c.in_ok-size.size in
     let counted_size = simp to_z-of_z at c.size.ensures.count in
-    let is = draft_value _ c.size.result (λ (s : Size). pos s.count ≡ counts.nodes) c.in-ok-size.ensures counted_size in
-    let begins_here = begins c.args.places counts room (sym answer ∙ draft_met _ c.size.result c.in-ok-size.ensures) in
+    let is = draft_value _ c.size.result (λ (s : Size). pos s.count ≡ counts.nodes) c.in_ok-size.ensures counted_size in
+    let begins_here = begins c.args.places counts room (sym answer ∙ draft_met _ c.size.result c.in_ok-size.ensures) in
     let drawn : sketch_of c.new.result ≡ begun (natural counts.nodes) = c.new.ensures ∙ ap (λ (x : ℤ). begun (natural x)) is in
     let whole = net_read _ _ _ c.sign.ensures (call_made refl told.step) begins_here in
     simp to_z-of_z (record {

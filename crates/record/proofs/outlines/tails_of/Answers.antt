@@ -10,18 +10,18 @@ use Rattle.record.proofs.outlines.tails_of.Goals as goal
 pub loop-a-preserved : goal.loop-a-preserved
 loop-a-preserved c =
     let items = (book_of c.args.sheet.now).arcs in
-    let fits : SFits w64 c.ends-at-tail.result.0 = search rules in
+    let fits : SFits w64 c.ends_at-tail.result.0 = search rules in
     let within : c.loop-a.a < length c.loop-a.tails = search rules in
-    let there : c.loop-a.a < length items = omega (arith, c.arc-count-a-end.ensures) in
+    let there : c.loop-a.a < length items = omega (arith, c.arc_count-a-end.ensures) in
     simp to_z-of_z (
-      listed_more (λ (x : Arc). pos (x.tail + 1)) items c.loop-a.tails c.loop-a.a no_arc c.ends-at-tail.result.0 within there c.ends-at-tail.ensures.tail c.loop-a.invariant.0,
-      length-set c.loop-a.tails c.loop-a.a c.ends-at-tail.result.0 ∙ c.loop-a.invariant.1,
+      listed_more (λ (x : Arc). pos (x.tail + 1)) items c.loop-a.tails c.loop-a.a no_arc c.ends_at-tail.result.0 within there c.ends_at-tail.ensures.tail c.loop-a.invariant.0,
+      length-set c.loop-a.tails c.loop-a.a c.ends_at-tail.result.0 ∙ c.loop-a.invariant.1,
     )
 
 pub returns : goal.returns
 returns c =
     let items = (book_of c.args.sheet.now).arcs in
     record {
-      list = listed_all (λ (x : Arc). pos (x.tail + 1)) items c.loop-a.tails c.loop-a.a (length items) (omega (arith, c.arc-count-a-end.ensures)) refl c.loop-a.invariant.0;
+      list = listed_all (λ (x : Arc). pos (x.tail + 1)) items c.loop-a.tails c.loop-a.a (length items) (omega (arith, c.arc_count-a-end.ensures)) refl c.loop-a.invariant.0;
       long = c.loop-a.invariant.1;
     }

@@ -4,10 +4,10 @@ use Rattle.record.specs.Readings.{Rows}
 use Rattle.record.proofs.Rowing.{loop_more, loop_stop, loop_done, filled_at, taken_more, dropped_more, stored_back}
 use Rattle.record.proofs.rows.cost_lines.Goals as goal
 
-pub returns-in-err-next : goal.returns-in-err-next
-returns-in-err-next g c =
-    let p = err_from_is_err_and c.from-residual.result c.from-residual.ensures.1 in
-    let told = c.in-err-next.ensures in
+pub returns-in_err-next : goal.returns-in_err-next
+returns-in_err-next g c =
+    let p = err_from_is_err_and c.from_residual.result c.from_residual.ensures.1 in
+    let told = c.in_err-next.ensures in
     let few : c.loop-i.i ≤ length c.loop-i.places = omega arith in
     let all = loop_stop _ _ _ _ _ _ _ c.loop-i.invariant.0 c.loop-i-test.true (sym told.shown) in
     let back = stored_back c.loop-i.places c.loop-i.i c.index-places-i.result told.untouched in
@@ -19,7 +19,7 @@ returns-in-err-next g c =
 
 pub loop-i-preserved : goal.loop-i-preserved
 loop-i-preserved g c =
-    let told = c.in-ok-next.ensures in
+    let told = c.in_ok-next.ensures in
     let within : c.loop-i.i < length c.loop-i.places = omega arith in
     let taken = taken_more g.W.Written.row c.loop-i.places c.loop-i.i c.cost_line.new.place within in (
       loop_more _ _ _ _ _ _ _ c.loop-i.invariant.0 c.loop-i-test.true (sym told.shown) taken,

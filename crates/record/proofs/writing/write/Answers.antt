@@ -13,7 +13,7 @@ use Rattle.record.proofs.writing.write.Goals as goal
 
 pub returns-then-costs-arcs : goal.returns-then-costs-arcs
 returns-then-costs-arcs g c = record {
-  outcome = writes_none _ c.args.bytes.now _ _ (λ same. c.if-costs-arcs.true (same ∙ sym c.arc-count-arcs.ensures));
+  outcome = writes_none _ c.args.bytes.now _ _ (λ same. c.if-costs-arcs.true (same ∙ sym c.arc_count-arcs.ensures));
   back = tt;
   means = all_mean g.W.Written.row g.W.Cost.meaning g.W.Written.means g.met.W.Written.meant c.args.costs.now;
 }
@@ -23,16 +23,16 @@ unfolding record_text
 returns g c =
     let book = book_of c.args.sheet.now in
     let rows = map g.W.Written.row c.args.costs.now in
-    let nodes = c.node-count-nodes.ensures in
-    let arcs = c.arc-count-arcs.ensures in
+    let nodes = c.node_count-nodes.ensures in
+    let arcs = c.arc_count-arcs.ensures in
     let sheet = c.args.sheet.now in
-    let some : to_z w64 c.node-count-nodes.result ≡ pos (length book.nodes) = omega (arith, ints, nodes, length-take sheet.node_count sheet.table.nodes, sheet.few_nodes) in
-    let more : to_z w64 c.arc-count-arcs.result ≡ pos (length book.arcs) = omega (arith, ints, arcs, length-take sheet.arc_count sheet.table.arcs, sheet.few_arcs) in
-    let counts = ap (λ (n : ℤ). n ∷ to_z w64 c.arc-count-arcs.result ∷ []) some ∙ ap (λ (m : ℤ). pos (length book.nodes) ∷ m ∷ []) more in
+    let some : to_z w64 c.node_count-nodes.result ≡ pos (length book.nodes) = omega (arith, ints, nodes, length-take sheet.node_count sheet.table.nodes, sheet.few_nodes) in
+    let more : to_z w64 c.arc_count-arcs.result ≡ pos (length book.arcs) = omega (arith, ints, arcs, length-take sheet.arc_count sheet.table.arcs, sheet.few_arcs) in
+    let counts = ap (λ (n : ℤ). n ∷ to_z w64 c.arc_count-arcs.result ∷ []) some ∙ ap (λ (m : ℤ). pos (length book.nodes) ∷ m ∷ []) more in
     let each : length c.args.costs.now ≡ length book.arcs = omega (arith, arcs, c.if-costs-arcs.false) in
     let start = ap (λ (letter : ℕ). 110 ∷ 101 ∷ 116 ∷ 32 ∷ letter ∷ []) c.sign.ensures in
-    let same = same_network start counts (front_part c.supplies-of-supplies.result _ nodes c.supplies-of-supplies.ensures.list) (front_part c.tails-of-tails.result _ arcs c.tails-of-tails.ensures.list) (front_part c.heads-of-heads.result _ arcs c.heads-of-heads.ensures.list) in
-    let outcome = writes_by (record_text g.W.Written.sign book rows) c.args.bytes.now _ _ (ap (λ (front : List ℕ). front ++ row_lines rows) same) each c.write-whole.ensures.answer c.write-whole.ensures.bytes in
+    let same = same_network start counts (front_part c.supplies_of-supplies.result _ nodes c.supplies_of-supplies.ensures.list) (front_part c.tails_of-tails.result _ arcs c.tails_of-tails.ensures.list) (front_part c.heads_of-heads.result _ arcs c.heads_of-heads.ensures.list) in
+    let outcome = writes_by (record_text g.W.Written.sign book rows) c.args.bytes.now _ _ (ap (λ (front : List ℕ). front ++ row_lines rows) same) each c.write_whole.ensures.answer c.write_whole.ensures.bytes in
     let kind : Kind = record { letter = g.W.Written.sign; long = g.W.Written.long; refuses = g.W.Written.refuses } in
     let laws = g.met.W.Written in
     let good : (x : g.row.W.Denot) → Good kind (g.W.Written.row x) = λ x. record {
@@ -44,8 +44,8 @@ returns g c =
     record {
       outcome = outcome;
       back =
-          write_back kind sheet rows c.write-whole.result c.write-whole.new.bytes laws.visible.0 (length-map c.args.costs.now g.W.Written.row ∙ each)
+          write_back kind sheet rows c.write_whole.result c.write_whole.new.bytes laws.visible.0 (length-map c.args.costs.now g.W.Written.row ∙ each)
           (good_rows kind g.W.Written.row good c.args.costs.now)
-          (written_text _ _ _ c.write-whole.result c.args.bytes.now c.write-whole.new.bytes outcome);
+          (written_text _ _ _ c.write_whole.result c.args.bytes.now c.write_whole.new.bytes outcome);
       means = all_mean g.W.Written.row g.W.Cost.meaning g.W.Written.means laws.meant c.args.costs.now;
     }

@@ -10,7 +10,7 @@ pub returns-then-bytes-needed : goal.returns-then-bytes-needed
 returns-then-bytes-needed g c =
     let front = outline_text c.args.outline.now in
     let back = row_lines (map g.W.Written.row c.args.costs.now) in
-    let is : c.length.result + c.rows-length.result ≡ length (front ++ back) = omega (arith, length-append front back, c.length.ensures.length, c.rows-length.ensures.length) in
+    let is : c.length.result + c.rows_length.result ≡ length (front ++ back) = omega (arith, length-append front back, c.length.ensures.length, c.rows_length.ensures.length) in
     record {
       answer = refused_answer (front ++ back) c.args.bytes.now _ is c.if-bytes-needed.true;
       bytes = refused_bytes (front ++ back) c.args.bytes.now _ is c.if-bytes-needed.true;
@@ -21,9 +21,9 @@ returns g c =
     let front = outline_text c.args.outline.now in
     let back = row_lines (map g.W.Written.row c.args.costs.now) in
     let bytes = c.args.bytes.now in
-    let all = written_then bytes 0 front back (omega arith) c.write-next.ensures.into (omega (arith, c.write-next.ensures.next)) c.write-rows.ensures.into in
+    let all = written_then bytes 0 front back (omega arith) c.write-next.ensures.into (omega (arith, c.write-next.ensures.next)) c.write_rows.ensures.into in
     record {
-      answer = made_answer (front ++ back) bytes c.write-rows.result (omega (arith, length-append front back, c.write-next.ensures.next, c.write-rows.ensures.next))
-          (omega (arith, length-append front back, c.write-next.ensures.next, c.write-rows.ensures.next, c.length.ensures.length, c.rows-length.ensures.length, c.if-bytes-needed.false));
-      bytes = made_bytes (front ++ back) bytes (omega (arith, length-append front back, c.length.ensures.length, c.rows-length.ensures.length, c.if-bytes-needed.false)) all;
+      answer = made_answer (front ++ back) bytes c.write_rows.result (omega (arith, length-append front back, c.write-next.ensures.next, c.write_rows.ensures.next))
+          (omega (arith, length-append front back, c.write-next.ensures.next, c.write_rows.ensures.next, c.length.ensures.length, c.rows_length.ensures.length, c.if-bytes-needed.false));
+      bytes = made_bytes (front ++ back) bytes (omega (arith, length-append front back, c.length.ensures.length, c.rows_length.ensures.length, c.if-bytes-needed.false)) all;
     }

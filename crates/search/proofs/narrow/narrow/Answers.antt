@@ -8,7 +8,7 @@ use Rattle.flow.specs.Labels.{reached_in}
 use Rattle.search.specs.Turns.{Narrow}
 use Rattle.search.proofs.Pairwise.{one_renewed, one_kept}
 use Rattle.search.proofs.narrow.narrow.Goals as goal
-use Rattle.search.proofs.narrow.narrow.Goals.{then-is-due, else-is-due}
+use Rattle.search.proofs.narrow.narrow.Goals.{then-is_due, else-is_due}
 
 pub loop-a-init : goal.loop-a-init
 loop-a-init g c k h which =
@@ -25,11 +25,11 @@ loop-a-preserved g c =
     let read = cost_read g.C.Cost.meaning c.args.costs.now a c.index-costs-a.result (omega arith) c.index-costs-a.is in
     let R : ℕ → ℤ → ℤ → Type 0 = λ k x y. Narrow (cost_of costs k) (tension net price k) c.args.step x y in
     let Q : ℕ → Type 0 = λ k. (c.args.anew ≡ false) × (reached_in c.args.labels.now (net.tail k) ≡ reached_in c.args.labels.now (net.head k)) in
-    elim c.if-is-due.branch [
-      | then-is-due w ↦ rw (w.lows-is, w.highs-is) (simp to_z-of_z (one_renewed R Q (length c.args.arcs.now) a c.loop-a.lows c.loop-a.highs w.narrow-at.new.lows w.narrow-at.new.highs
-          (simp to_z-of_z at c.loop-a.invariant) (rw read (simp to_z-of_z at w.narrow-at.ensures.narrow)) w.narrow-at.ensures.lows w.narrow-at.ensures.highs))
-      | else-is-due w ↦ rw (w.lows-is, w.highs-is) (simp to_z-of_z (one_kept R Q (length c.args.arcs.now) a c.loop-a.lows c.loop-a.highs
-          (simp to_z-of_z at c.loop-a.invariant) (c.is-due.ensures.anew w.if-is-due.false, c.is-due.ensures.alike w.if-is-due.false)))
+    elim c.if-is_due.branch [
+      | then-is_due w ↦ rw (w.lows-is, w.highs-is) (simp to_z-of_z (one_renewed R Q (length c.args.arcs.now) a c.loop-a.lows c.loop-a.highs w.narrow_at.new.lows w.narrow_at.new.highs
+          (simp to_z-of_z at c.loop-a.invariant) (rw read (simp to_z-of_z at w.narrow_at.ensures.narrow)) w.narrow_at.ensures.lows w.narrow_at.ensures.highs))
+      | else-is_due w ↦ rw (w.lows-is, w.highs-is) (simp to_z-of_z (one_kept R Q (length c.args.arcs.now) a c.loop-a.lows c.loop-a.highs
+          (simp to_z-of_z at c.loop-a.invariant) (c.is_due.ensures.anew w.if-is_due.false, c.is_due.ensures.alike w.if-is_due.false)))
     ]
 
 pub returns : goal.returns

@@ -9,5 +9,5 @@ returns g c passed =
     let bar = c.ranges.bar in
     let load = c.ranges.load in
     let less : SFits w64 (c.args.load -ℤ pos 1) = search rules in
-    passing_turns (g.C.Cost.meaning c.args.cost.now) c.args.bar c.args.load c.increment_at.result c.increment-at-2.result
-    (simp to_z-of_z at c.increment_at.ensures) (simp to_z-of_z at c.increment-at-2.ensures) (simp to_z-of_z at (c.pass-between.ensures passed))
+    passing_turns (g.C.Cost.meaning c.args.cost.now) c.args.bar c.args.load c.increment_at.result c.increment_at-2.result
+    (simp to_z-of_z at c.increment_at.ensures) (simp to_z-of_z at c.increment_at-2.ensures) (simp to_z-of_z at (c.pass_between.ensures passed))

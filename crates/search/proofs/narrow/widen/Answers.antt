@@ -15,5 +15,5 @@ loop-a-preserved g c =
     let read = cost_read g.C.Cost.meaning c.args.costs.now a c.index-costs-a.result (omega arith) c.index-costs-a.is in
     let law = (g.met.C.Cost.lawful c.index-costs-a.result).last_limit in
     two_more (λ k x y. (x ≡ pos (cost_of costs k).first) × (y ≡ pos (last (cost_of costs k)))) c.loop-a.lows c.loop-a.highs a
-    (to_z w64 (of_z w64 c.first-load.result)) (to_z w64 (of_z w64 c.last-load.result)) (omega arith) (omega arith) c.loop-a.invariant
-    (rw read (omega (arith, ints, c.first-load.ensures), omega (arith, ints, c.last-load.ensures)))
+    (to_z w64 (of_z w64 c.first_load.result)) (to_z w64 (of_z w64 c.last_load.result)) (omega arith) (omega arith) c.loop-a.invariant
+    (rw read (omega (arith, ints, c.first_load.ensures), omega (arith, ints, c.last_load.ensures)))

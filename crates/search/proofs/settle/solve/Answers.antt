@@ -16,7 +16,7 @@ improve-requires g c = record {
   costed = c.requires.costed;
   loaded = omega arith;
   priced = c.requires.sound.node_limit;
-  near = c.near-of-near.ensures;
+  near = c.near_of-near.ensures;
   balanced = c.requires.balanced;
   meets = c.route.ensures.meets (search rules);
   start = λ v h. get_or-replicate 64 v (pos 0) (pos 0) (omega (arith, c.requires.sound.node_limit));
@@ -28,12 +28,12 @@ returns g c =
     let net = net_of c.args.nodes.now c.args.arcs.now costs in
     let lawful = λ (a : ℕ) (h : a < length c.args.arcs.now). each_cost g.C.Cost.meaning Lawful g.met.C.Cost.lawful c.args.costs.now a (omega arith) in
     let ends = sound_ends c.args.nodes.now c.args.arcs.now costs c.requires.sound in
-    let price = numbers c.draw-in.new.levels in
+    let price = numbers c.draw_in.new.levels in
     let load = numbers c.improve.new.loads in
     record {
       meets = λ _. c.improve.ensures.meets;
       equal = λ _. slackness net load price ends (lawful_convex c.args.nodes.now c.args.arcs.now costs lawful) c.improve.ensures.meets
-          (drawn_slack net (numbers c.improve.new.prices) price load ends lawful c.draw-in.ensures.drawn c.improve.ensures.slack);
-      limits = λ _. c.draw-in.ensures.limits;
+          (drawn_slack net (numbers c.improve.new.prices) price load ends lawful c.draw_in.ensures.drawn c.improve.ensures.slack);
+      limits = λ _. c.draw_in.ensures.limits;
       barred = λ e. absurd (true≢false e);
     }

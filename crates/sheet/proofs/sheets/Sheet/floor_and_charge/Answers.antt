@@ -8,10 +8,10 @@ use Rattle.sheet.proofs.sheets.Sheet.floor_and_charge.Goals as goal
 pub returns : goal.returns
 returns g c =
     let s = c.args.self.now in
-    let under = floor_under_charge (book_of s) (sheet_sound s) (map g.C.Cost.meaning c.args.costs.now) c.args.loads.now c.args.prices.now c.in-ok-charge.charge c.in-ok-floor.floor c.in-ok-charge.ensures c.in-ok-floor.ensures in
+    let under = floor_under_charge (book_of s) (sheet_sound s) (map g.C.Cost.meaning c.args.costs.now) c.args.loads.now c.args.prices.now c.in_ok-charge.charge c.in_ok-floor.floor c.in_ok-charge.ensures c.in_ok-floor.ensures in
     search rules
 
-pub returns-in-err-check-lists : goal.returns-in-err-check-lists
-returns-in-err-check-lists g c =
+pub returns-in_err-check_lists : goal.returns-in_err-check_lists
+returns-in_err-check_lists g c =
     let long = length-map c.args.costs.now g.C.Cost.meaning in
     search rules

@@ -8,9 +8,9 @@ pub returns : goal.returns
 returns g c =
     let s = c.args.self.now in
     let costs = map g.C.Cost.meaning c.args.costs.now in
-    let x = c.in-ok-floor.charge in
-    let y = c.in-ok-floor.floor in
-    let told = c.in-ok-floor.ensures in
+    let x = c.in_ok-floor.charge in
+    let y = c.in_ok-floor.floor in
+    let told = c.in_ok-floor.ensures in
     let fx : SFits w64 x = search rules in
     let fy : SFits w64 y = search rules in
     let is_charge = charge_value (book_of s) (sheet_sound s) costs c.args.loads.now c.args.prices.now x y told.charge told.floor in

@@ -8,8 +8,8 @@ use Rattle.ledger.specs.Books.{Book}
 use Rattle.ledger.specs.declared.standing.Standing.TheVariants.{Open}
 use Rattle.sheet.proofs.sheets.Sheet.of_nodes.Goals as goal
 
-pub invariant-of-result : goal.invariant-of-result
-invariant-of-result c = (
+pub invariant_of-result : goal.invariant_of-result
+invariant_of-result c = (
   refl,
   (
     refl,

@@ -4,8 +4,8 @@ use Rattle.network.specs.declared.records.Arc.{Arc}
 use Rattle.sheet.proofs.Tables.{push_keeps}
 use Rattle.sheet.proofs.sheets.Sheet.push_arc.Goals as goal
 
-pub invariant-of-self : goal.invariant-of-self
-invariant-of-self c =
+pub invariant_of-self : goal.invariant_of-self
+invariant_of-self c =
     let s = c.args.self.now in
     let arc : Arc = record { tail = c.args.tail; head = c.args.head; load = pos 0 } in (
       s.node_places,

@@ -7,8 +7,8 @@ use Rattle.ledger.proofs.Places.{take_of_set}
 use Rattle.sheet.proofs.Tables.{node_kept, put_limit}
 use Rattle.sheet.proofs.sheets.Sheet.put_supply.Goals as goal
 
-pub invariant-of-self : goal.invariant-of-self
-invariant-of-self c =
+pub invariant_of-self : goal.invariant_of-self
+invariant_of-self c =
     let s = c.args.self.now in
     let fits = c.ranges.amount in (
       length-set s.table.nodes c.args.v _ ∙ s.node_places,

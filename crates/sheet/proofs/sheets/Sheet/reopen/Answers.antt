@@ -4,23 +4,23 @@ use Rattle.ledger.specs.Books.{reset_node, reset_arc}
 use Rattle.sheet.proofs.Tables.{reset_places, reset_arc_places, reset_arc_at, reset_node_at}
 use Rattle.sheet.proofs.sheets.Sheet.reopen.Goals as goal
 
-pub invariant-of-self : goal.invariant-of-self
-invariant-of-self c =
+pub invariant_of-self : goal.invariant_of-self
+invariant_of-self c =
     let s = c.args.self.now in (
-      ap length c.reset-nodes.ensures ∙ reset_places s,
+      ap length c.reset_nodes.ensures ∙ reset_places s,
       (
-        ap length c.reset-arcs.ensures ∙ reset_arc_places s,
+        ap length c.reset_arcs.ensures ∙ reset_arc_places s,
         (
           s.few_nodes,
           (
             s.few_arcs,
             (
-              λ a h. simp (c.reset-arcs.ensures, reset_arc_at s a h) (s.tails a h),
+              λ a h. simp (c.reset_arcs.ensures, reset_arc_at s a h) (s.tails a h),
               (
-                λ a h. simp (c.reset-arcs.ensures, reset_arc_at s a h) (s.heads a h),
+                λ a h. simp (c.reset_arcs.ensures, reset_arc_at s a h) (s.heads a h),
                 (
-                  λ v h. simp (c.reset-nodes.ensures, reset_node_at s v h) (s.supplies v h),
-                  (λ a h. simp (c.reset-arcs.ensures, reset_arc_at s a h) (s.loops a h), tt),
+                  λ v h. simp (c.reset_nodes.ensures, reset_node_at s v h) (s.supplies v h),
+                  (λ a h. simp (c.reset_arcs.ensures, reset_arc_at s a h) (s.loops a h), tt),
                 ),
               ),
             ),

@@ -18,8 +18,8 @@ settle-requires g c =
       balanced = rw (whole_part s.node_count) ready.1;
     }
 
-pub invariant-of-self : goal.invariant-of-self
-invariant-of-self g c =
+pub invariant_of-self : goal.invariant_of-self
+invariant_of-self g c =
     let s = c.args.self.now in
     let nodes = c.settle.new.nodes in
     let arcs = c.settle.new.arcs in

@@ -22,8 +22,8 @@ use Rattle.ledger.proofs.Bare.{same_bare}
 use Rattle.ledger.proofs.Outcomes.{ready_to_settle, same_network, answers_of, answers_exactly, answers_or_none, ends_refused, ends_settled, ends_barred}
 use Rattle.sheet.proofs.sheets.Sheet.settle.Goals as goal
 
-pub check-settling-requires : goal.check-settling-requires
-check-settling-requires g c = let sound = sheet_sound c.args.self.now in search rules
+pub check_settling-requires : goal.check_settling-requires
+check_settling-requires g c = let sound = sheet_sound c.args.self.now in search rules
 
 -- what the ways to the end share
 module _ (s : Sheet) {C : Type 0} (meaning : C → Meaning) (costs : List C) (after : Book) (r : Result Amounts SheetFault) (outcome : Settles (book_of s) (map meaning costs) after r) where
@@ -37,15 +37,15 @@ module _ (s : Sheet) {C : Type 0} (meaning : C → Meaning) (costs : List C) (af
       answers_or_none (book_of s) (map meaning costs) (sound_ends (book_of s).nodes (book_of s).arcs (map meaning costs) (sheet_sound s)) r
       (ap (settle_refusal (book_of s).nodes (book_of s).arcs) (length-map costs meaning) ∙ none) (answers_of (book_of s) after (map meaning costs) r outcome)
 
-pub returns-in-err-check-settling : goal.returns-in-err-check-settling
-returns-in-err-check-settling g c =
+pub returns-in_err-check_settling : goal.returns-in_err-check_settling
+returns-in_err-check_settling g c =
     let s = c.args.self.now in
     let costs = c.args.costs.now in
     let long = length-map costs g.C.Cost.meaning in
-    let f = c.in-err-check-settling.field-0.0 in
-    let is : c.from-residual.result ≡ Err f = search rules in
+    let f = c.in_err-check_settling.field-0.0 in
+    let is : c.from_residual.result ≡ Err f = search rules in
     let told : settle_refusal (book_of s).nodes (book_of s).arcs (length costs) ≡ Some f = search rules in
-    let outcome = ends_refused (book_of s) (map g.C.Cost.meaning costs) f c.from-residual.result (ap (settle_refusal (book_of s).nodes (book_of s).arcs) long ∙ told) is in
+    let outcome = ends_refused (book_of s) (map g.C.Cost.meaning costs) f c.from_residual.result (ap (settle_refusal (book_of s).nodes (book_of s).arcs) long ∙ told) is in
     record { outcome = outcome; exactly = exactly s g.C.Cost.meaning costs (book_of s) _ outcome; refuses = refuses s g.C.Cost.meaning costs (book_of s) _ outcome }
 
 pub returns-then-not-search : goal.returns-then-not-search
@@ -57,12 +57,12 @@ returns-then-not-search g c =
     let after = c.search.new.self in
     let book : book_of c.stand.new.self ≡ record { nodes = (book_of after).nodes; arcs = (book_of after).arcs; standing = standing.Barred } = search rules in
     let barred = ends_barred (book_of s) (map g.C.Cost.meaning costs) (sheet_sound s) (ap (settle_refusal (book_of s).nodes (book_of s).arcs) long ∙ told) (book_of after).nodes (book_of after).arcs
-    c.search.ensures.nodes c.search.ensures.arcs (c.search.ensures.bars (search rules)) c.count-marked.result (search rules) in
-    let outcome = subst (λ (b : Book). Settles (book_of s) (map g.C.Cost.meaning costs) b (Err (fault.Barred c.count-marked.result))) (sym book) barred in
+    c.search.ensures.nodes c.search.ensures.arcs (c.search.ensures.bars (search rules)) c.count_marked.result (search rules) in
+    let outcome = subst (λ (b : Book). Settles (book_of s) (map g.C.Cost.meaning costs) b (Err (fault.Barred c.count_marked.result))) (sym book) barred in
     record { outcome = outcome; exactly = exactly s g.C.Cost.meaning costs _ _ outcome; refuses = refuses s g.C.Cost.meaning costs _ _ outcome }
 
-pub floor-held-floor-requires : goal.floor-held-floor-requires
-floor-held-floor-requires g c =
+pub floor_held-floor-requires : goal.floor_held-floor-requires
+floor_held-floor-requires g c =
     let s = c.args.self.now in
     let after = c.search.new.self in
     let found = c.search.ensures.found (search rules) in
@@ -87,14 +87,14 @@ returns g c =
     let nodes = c.nodes-2.ensures ∙ c.stand-2.ensures.nodes in
     let arcs = c.arcs-3.ensures ∙ c.stand-2.ensures.arcs in
     let arcs₂ = c.arcs-2.ensures ∙ c.stand-2.ensures.arcs in
-    let charged : c.charge-carried-charge.result ≡ charge (network_of (book_of s) (map g.C.Cost.meaning costs)) (loads_of (book_of after).arcs) =
-    c.charge-carried-charge.ensures ∙ ap (λ (es : List Arc). charge (net_of [] es (map g.C.Cost.meaning costs)) (loads_of es)) arcs₂ ∙ ap (λ (net : Net). charge net (loads_of (book_of after).arcs)) same in
-    let floored : c.floor-held-floor.result ≡ floor (network_of (book_of s) (map g.C.Cost.meaning costs)) (prices_of (book_of after).nodes) =
-    c.floor-held-floor.ensures ∙ ap (λ (es : List Arc). floor (net_of c.nodes-2.result.now es (map g.C.Cost.meaning costs)) (prices_of c.nodes-2.result.now)) arcs
+    let charged : c.charge_carried-charge.result ≡ charge (network_of (book_of s) (map g.C.Cost.meaning costs)) (loads_of (book_of after).arcs) =
+    c.charge_carried-charge.ensures ∙ ap (λ (es : List Arc). charge (net_of [] es (map g.C.Cost.meaning costs)) (loads_of es)) arcs₂ ∙ ap (λ (net : Net). charge net (loads_of (book_of after).arcs)) same in
+    let floored : c.floor_held-floor.result ≡ floor (network_of (book_of s) (map g.C.Cost.meaning costs)) (prices_of (book_of after).nodes) =
+    c.floor_held-floor.ensures ∙ ap (λ (es : List Arc). floor (net_of c.nodes-2.result.now es (map g.C.Cost.meaning costs)) (prices_of c.nodes-2.result.now)) arcs
     ∙ ap (λ (ns : List Node). floor (net_of ns (book_of after).arcs (map g.C.Cost.meaning costs)) (prices_of ns)) nodes ∙ ap (λ (net : Net). floor net (prices_of (book_of after).nodes)) same in
     let settled = ends_settled (book_of s) (map g.C.Cost.meaning costs) (sheet_sound s) (ap (settle_refusal (book_of s).nodes (book_of s).arcs) long ∙ told) (book_of after).nodes (book_of after).arcs
     c.search.ensures.nodes c.search.ensures.arcs (c.search.ensures.found (search rules)) _ _ charged floored in
-    let fx : SFits w64 c.charge-carried-charge.result = search rules in
-    let fy : SFits w64 c.floor-held-floor.result = search rules in
-    let outcome = subst (λ (b : Book). Settles (book_of s) (map g.C.Cost.meaning costs) b (Ok (record { charge = c.charge-carried-charge.result; floor = c.floor-held-floor.result }))) (sym book) settled in
+    let fx : SFits w64 c.charge_carried-charge.result = search rules in
+    let fy : SFits w64 c.floor_held-floor.result = search rules in
+    let outcome = subst (λ (b : Book). Settles (book_of s) (map g.C.Cost.meaning costs) b (Ok (record { charge = c.charge_carried-charge.result; floor = c.floor_held-floor.result }))) (sym book) settled in
     simp to_z-of_z (record { outcome = outcome; exactly = exactly s g.C.Cost.meaning costs _ _ outcome; refuses = refuses s g.C.Cost.meaning costs _ _ outcome })

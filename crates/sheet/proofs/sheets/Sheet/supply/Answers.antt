@@ -21,6 +21,6 @@ returns c =
     let known : Some v ≡ place_in (length (book_of s).nodes) c.args.node = rw (nodes_counted s) here in
     let amount = c.ranges.amount in
     let fits : None ≡ outside supply_limits 2 c.args.amount = search rules in
-    let new = supplied_at (book_of s) c.args.node c.args.amount v known fits _ (simp to_z-of_z at c.put-supply.ensures.nodes) in
-    let book = c.reopen.ensures ∙ ap (opened _) c.put-supply.ensures.arcs in
+    let new = supplied_at (book_of s) c.args.node c.args.amount v known fits _ (simp to_z-of_z at c.put_supply.ensures.nodes) in
+    let book = c.reopen.ensures ∙ ap (opened _) c.put_supply.ensures.arcs in
     record { answer = sym (supply_accepted (book_of s) c.args.node c.args.amount v known fits); after = book ∙ sym new }
