@@ -1,9 +1,9 @@
 -- A search that reaches one node more keeps its labels sound.
-use Rattle.std.proofs.Common.{◌≡◌, ℕ, ◌+◌, ◌<◌, ◌≤◌, Bool, true, false, cond, not, ◌&&◌, ◌||◌, ◌⊎◌, List, length, set, ℤ, pos, ◌-ℤ◌, ◌≤ℤ◌, ◌<ℤ◌, sym, refl, ap, ◌∙◌, subst, inl, inr, arith, below_more}
+use Rattle.std.proofs.Common.{◌≡◌, ℕ, ◌+◌, ◌<◌, ◌≤◌, Bool, true, false, cond, not, ◌&&◌, ◌||◌, List, set, ℤ, pos, ◌-ℤ◌, ◌≤ℤ◌, ◌<ℤ◌, sym, refl, ap, ◌∙◌, subst, inl, inr, arith, below_more}
 use lib.Signed.{lt_z}
 use Rattle.std.proofs.lemmas.Int.{ints, clamps}
 use Rattle.std.proofs.lemmas.List.{get_or-set_same, get_or-set_other, length-set}
-use Rattle.std.proofs.lemmas.Bool.{cases_eq, cases_Bool, and_parts, not-true, both_ways, or_right, or_parts, or_cases}
+use Rattle.std.proofs.lemmas.Bool.{cases_eq, and_parts, not-true, both_ways, or_right, or_parts, or_cases}
 use Rattle.network.specs.Network.{Net, surplus}
 use Rattle.flow.specs.declared.reach.Label.{Label}
 use Rattle.flow.specs.Labels.{no_label, label_of, reached_in, unreached, end_of, start_of, room_on, extends, onward, Stepped, Labelled, ClosedIn}

@@ -1,5 +1,5 @@
 -- A pass over the arcs of a network that tries each arc along and against its direction.
-use Rattle.std.proofs.Common.{◌≡◌, ℕ, ◌+◌, ◌<◌, Bool, true, false, cond, ◌||◌, List, [], length, set, ℤ, ◌-ℤ◌, refl, arith, w64, SFits}
+use Rattle.std.proofs.Common.{◌≡◌, ℕ, ◌<◌, Bool, true, false, cond, ◌||◌, List, [], length, set, ℤ, ◌-ℤ◌, refl, arith, w64, SFits}
 use Rattle.std.proofs.lemmas.Int.{ints}
 use Rattle.network.specs.Network.{Net}
 use Rattle.network.specs.Records.{net_of, numbers}
@@ -7,8 +7,8 @@ use Rattle.network.specs.declared.records.Node.{Node}
 use Rattle.network.specs.declared.records.Arc.{Arc}
 use Rattle.flow.specs.declared.reach.Label.{Label}
 use Rattle.flow.specs.Within.{Ready}
-use Rattle.flow.specs.Labels.{extends, onward, label_of, reached_in}
-use Rattle.flow.proofs.Marks.{Grown, Extended, extend_by, Passing, pass_on}
+use Rattle.flow.specs.Labels.{extends, onward}
+use Rattle.flow.proofs.Marks.{Grown, Extended, extend_by}
 
 module _ (nodes : List Node) (arcs : List Arc) (lows highs loads : List ℤ) (ready : Ready nodes arcs lows highs loads) (a : ℕ) (within : a < length arcs) where
   abbrev net : Net

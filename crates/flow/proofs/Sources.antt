@@ -1,10 +1,9 @@
 -- A search starts from the nodes of positive surplus.
-use Rattle.std.proofs.Common.{◌≡◌, ℕ, ◌+◌, ◌<◌, ◌≤◌, true, not, List, length, ℤ, pos, ◌<ℤ◌, sym, ap, ◌∙◌, arith}
-use lib.Signed.{lt_z}
+use Rattle.std.proofs.Common.{◌≡◌, ℕ, ◌<◌, ◌≤◌, not, List, length, ℤ, sym, ap, ◌∙◌, arith}
 use Rattle.std.proofs.lemmas.Int.{ints}
 use Rattle.network.specs.Network.{Net, surplus}
 use Rattle.flow.specs.declared.reach.Label.{Label}
-use Rattle.flow.specs.Labels.{label_of, reached_in, unreached, source, Labelled}
+use Rattle.flow.specs.Labels.{label_of, reached_in, source, Labelled}
 use Rattle.flow.proofs.Counts.{count_under}
 
 pub sources_labelled : (net : Net) (low high load : ℕ → ℤ) (labels : List Label) → net.nodes ≤ length labels

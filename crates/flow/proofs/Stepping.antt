@@ -1,6 +1,5 @@
 -- A single step over an arc, along it or against it, keeps the labels sound.
-use Rattle.std.proofs.Common.{◌≡◌, ℕ, ◌<◌, ◌≤◌, Bool, true, false, cond, List, [], length, set, ℤ, ◌-ℤ◌, sym, refl, ◌∙◌, subst, arith, w64, SFits}
-use Rattle.std.proofs.lemmas.Bool.{both_ways}
+use Rattle.std.proofs.Common.{◌≡◌, ℕ, ◌<◌, Bool, true, false, cond, List, [], length, set, ℤ, ◌-ℤ◌, sym, arith, w64, SFits}
 use Rattle.network.specs.Network.{Net}
 use Rattle.network.specs.Records.{net_of, numbers}
 use Rattle.network.specs.declared.records.Node.{Node}

@@ -1,5 +1,5 @@
 -- The arcs at each node, in lists.
-use Rattle.std.specs.Prelude.{◌≡◌, ℕ, ◌+◌, ◌<◌, ◌≤◌, List, length, Some, None, Option, slice_index_or}
+use Rattle.std.specs.Prelude.{◌≡◌, ℕ, ◌+◌, ◌≤◌, List, length, Some, None, Option, slice_index_or}
 use Rattle.flow.specs.declared.near.Lists.{Lists}
 use Rattle.flow.specs.declared.near.Near.{Near}
 

@@ -1,5 +1,5 @@
 -- Where no surplus is positive, all are 0, since they sum to 0.
-use Rattle.std.proofs.Common.{[], arith, rules}
+use Rattle.std.proofs.Common.{[], arith}
 use Rattle.std.proofs.lemmas.Int.{ints}
 use Rattle.std.proofs.lemmas.Bool.{true≢false}
 use Rattle.network.specs.Records.{net_of, numbers}

@@ -1,6 +1,5 @@
 -- A way is found, along which an amount is pushed and noted; or no way is found.
-use Rattle.std.proofs.Common.{◌≡◌, ℤ, pos, ◌-ℤ◌, arith, w64, SFits, rules}
-use Rattle.std.specs.Int.{int_min}
+use Rattle.std.proofs.Common.{pos, ◌-ℤ◌, arith, w64, SFits, rules}
 use Rattle.std.proofs.lemmas.Int.{ints, to_z-of_z}
 use Rattle.std.proofs.lemmas.Bool.{false≢true, true≢false}
 use Rattle.network.specs.Records.{numbers}

@@ -1,6 +1,6 @@
 -- Each turn takes the step that the label of the node at hand notes.
-use Rattle.std.proofs.Common.{arith, rules}
-use Rattle.std.proofs.lemmas.Int.{ints, to_z-of_z}
+use Rattle.std.proofs.Common.{arith}
+use Rattle.std.proofs.lemmas.Int.{to_z-of_z}
 use Rattle.flow.proofs.Pushes.{push_starts, push_on, shifts}
 use Rattle.flow.proofs.push.push.Goals as goal
 

@@ -1,5 +1,5 @@
 -- Each turn adds what the arc brings.
-use Rattle.std.proofs.Common.{◌≤◌, [], length, arith, w64, SFits, rules}
+use Rattle.std.proofs.Common.{[], arith, w64, SFits, rules}
 use Rattle.std.proofs.lemmas.Int.{ints, to_z-of_z}
 use Rattle.network.specs.Records.{net_of, numbers}
 use Rattle.network.proofs.Gains.{surplus_by_all}
