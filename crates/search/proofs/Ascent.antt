@@ -1,12 +1,12 @@
 -- Where a set of nodes is over full within the narrowed loads, the floor rises with the prices of the set.
-use Rattle.std.proofs.Common.{◌≡◌, ℕ, suc, ◌+◌, ◌*◌, ◌<◌, Bool, true, false, not, ◌&&◌, ℤ, pos, negsuc, ◌+ℤ◌, ◌-ℤ◌, ◌*ℤ◌, ◌≤ℤ◌, ◌<ℤ◌, sym, refl, ap, ◌∙◌, mul-le-mul, arith}
+use Rattle.std.proofs.Common.{◌≡◌, ℕ, Bool, true, false, not, ◌&&◌, ℤ, pos, negsuc, ◌+ℤ◌, ◌-ℤ◌, ◌*ℤ◌, ◌≤ℤ◌, ◌<ℤ◌, sym, ap, ◌∙◌, mul-le-mul, arith}
 use lib.IntN.{*ℤ_comm, *ℤ-zero}
 use Rattle.std.proofs.lemmas.Int.{ints}
 use Rattle.cost.specs.Meaning.{Meaning, Rising}
 use Rattle.network.specs.Sums.{sum, counted}
-use Rattle.network.specs.Network.{Net, Convex, tension, reduced, least, worth, least_on, floor, Slack, leaves, enters, sum_marked}
+use Rattle.network.specs.Network.{Net, Convex, least, worth, least_on, floor, Slack, leaves, enters, sum_marked}
 use Rattle.network.proofs.Products.{times_plus, plus_times, times_minus, minus_times}
-use Rattle.network.proofs.Counted.{times_counted, counted_none}
+use Rattle.network.proofs.Counted.{times_counted}
 use Rattle.network.proofs.Sums.{sum_same, sum_order, sum_plus, sum_minus, sum_times}
 use Rattle.network.proofs.Least.{least_under, least_slack}
 use Rattle.flow.specs.Within.{room_within, OverFullWithin}

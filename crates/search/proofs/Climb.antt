@@ -1,10 +1,10 @@
 -- Prices that rise only where the floor rises as much stay modest, since no floor passes a charge.
-use Rattle.std.proofs.Common.{◌≡◌, ℕ, ◌+◌, ◌<◌, ◌≤◌, Bool, true, false, List, length, ℤ, pos, ◌+ℤ◌, ◌-ℤ◌, neg_ℤ, nat_abs, ◌≤ℤ◌, ◌<ℤ◌, sym, refl, ap, ◌∙◌, arith}
+use Rattle.std.proofs.Common.{◌≡◌, ℕ, ◌+◌, ◌<◌, ◌≤◌, Bool, true, false, length, ℤ, pos, ◌+ℤ◌, ◌-ℤ◌, neg_ℤ, ◌≤ℤ◌, arith}
 use lib.IntN.{*ℤ-zero}
 use Rattle.std.proofs.lemmas.Int.{ints}
 use Rattle.cost.specs.Meaning.{Meaning, natural, amount_at, Between, Lawful}
 use Rattle.cost.proofs.Amount.{amount_limit}
-use Rattle.network.specs.Sums.{sum, counted}
+use Rattle.network.specs.Sums.{counted}
 use Rattle.network.specs.Network.{Net, Ends, Meets, charge, floor, reduced, least, least_on, worth}
 use Rattle.network.proofs.Sums.{sum_within, sum_none}
 use Rattle.network.proofs.Least.{least_of_over, least_under}

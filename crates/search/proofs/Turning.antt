@@ -1,5 +1,5 @@
 -- The loads at which the increments of a cost pass a bar.
-use Rattle.std.proofs.Common.{◌≡◌, true, ◌||◌, length, get_or, ℤ, pos, ◌+ℤ◌, ◌-ℤ◌, ◌≤ℤ◌, ◌<ℤ◌, is_some, Some, None, Option, sym, ap, ◌∙◌, arith}
+use Rattle.std.proofs.Common.{◌≡◌, true, ◌||◌, ℤ, pos, ◌+ℤ◌, ◌-ℤ◌, ◌≤ℤ◌, ◌<ℤ◌, is_some, Some, None, Option, sym, ap, ◌∙◌, arith}
 use lib.IntN.{+ℤ-neg_ℤ_cancel}
 use Rattle.std.proofs.lemmas.Int.{ints, by_lt_z}
 use Rattle.std.proofs.lemmas.Bool.{false≢true}

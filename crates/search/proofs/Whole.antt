@@ -1,9 +1,9 @@
 -- The search within the whole range of each cost, and what a routing and prices say of the network.
-use Rattle.std.proofs.Common.{◌≡◌, ℕ, ◌<◌, ◌≤◌, Bool, false, List, [], length, ℤ, pos, ◌-ℤ◌, ◌≤ℤ◌, ◌<ℤ◌, sym, ap, ◌∙◌, arith}
+use Rattle.std.proofs.Common.{◌≡◌, ℕ, ◌<◌, ◌≤◌, Bool, false, List, [], length, ℤ, pos, ◌≤ℤ◌, sym, ap, ◌∙◌, arith}
 use Rattle.std.proofs.lemmas.Int.{ints}
 use Rattle.cost.specs.Meaning.{Meaning, last, Lawful, Between}
-use Rattle.network.specs.Sums.{sum, counted}
-use Rattle.network.specs.Network.{Net, Ends, Meets, surplus, charge, floor, leaves, enters, sum_marked, room, OverFull}
+use Rattle.network.specs.Sums.{counted}
+use Rattle.network.specs.Network.{Net, Ends, Meets, charge, floor, leaves, enters, OverFull}
 use Rattle.network.specs.Records.{net_of, numbers, cost_of, Sound}
 use Rattle.network.specs.declared.records.Node.{Node}
 use Rattle.network.specs.declared.records.Arc.{Arc}

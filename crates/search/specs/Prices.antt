@@ -1,5 +1,5 @@
 -- Prices, and how a set of them rises.
-use Rattle.std.specs.Prelude.{ℕ, ◌<◌, Bool, List, length, ℤ, pos, ◌+ℤ◌}
+use Rattle.std.specs.Prelude.{ℕ, ◌<◌, Bool, List, ℤ, pos, ◌+ℤ◌}
 use Rattle.cost.specs.Meaning.{Between}
 use Rattle.network.specs.Sums.{counted}
 use Rattle.network.specs.Network.{Net, Slack, tension}

@@ -1,12 +1,11 @@
 -- The next price above is drawn to the level next to the one before.
-use Rattle.std.proofs.Common.{◌≡◌, ℕ, ◌<◌, length, pos, ◌+ℤ◌, ◌-ℤ◌, ◌≤ℤ◌, ◌<ℤ◌, arith, w64, SFits, rules}
+use Rattle.std.proofs.Common.{◌≡◌, ℕ, ◌<◌, length, pos, ◌+ℤ◌, ◌-ℤ◌, ◌≤ℤ◌, ◌<ℤ◌, arith, w64, SFits}
 use lib.Signed.{le_z}
 use Rattle.std.specs.Int.{int_min}
 use Rattle.std.proofs.lemmas.Int.{ints, clamps, to_z-of_z, by_lt_z}
-use Rattle.cost.specs.Meaning.{Between}
 use Rattle.network.specs.Records.{numbers}
 use Rattle.flow.proofs.Counts.{count_limit}
-use Rattle.search.proofs.Drawing.{Drawing, drawing_on, drawing_ends, more, passed}
+use Rattle.search.proofs.Drawing.{Drawing, drawing_on, drawing_ends, more}
 use Rattle.search.proofs.draw.draw_in.Goals as goal
 
 pub returns-then-next-eq-PAST_ALL : goal.returns-then-next-eq-PAST_ALL

@@ -1,6 +1,6 @@
 -- The lows and highs are the loads slack near the tensions, so what holds within them holds of the network.
 use Rattle.std.proofs.Common.{ℕ, ◌<◌, map, length, arith}
-use Rattle.std.proofs.lemmas.Int.{ints, to_z-of_z}
+use Rattle.std.proofs.lemmas.Int.{to_z-of_z}
 use Rattle.cost.specs.Meaning.{Lawful}
 use Rattle.network.specs.Records.{numbers}
 use Rattle.network.proofs.Costs.{each_cost}

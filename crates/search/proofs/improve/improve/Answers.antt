@@ -1,6 +1,6 @@
 -- The charge at the start bounds how far the floor and the prices can rise.
 use Rattle.std.proofs.Common.{◌≡◌, ℕ, ◌<◌, map, length, ◌+ℤ◌, ◌≤ℤ◌, refl, arith, rules}
-use Rattle.std.proofs.lemmas.Int.{ints, to_z-of_z}
+use Rattle.std.proofs.lemmas.Int.{ints}
 use Rattle.std.proofs.lemmas.Bool.{true≢false}
 use Rattle.cost.specs.Meaning.{Lawful}
 use Rattle.network.specs.Network.{floor}

@@ -1,5 +1,5 @@
 -- Each turn holds one load more.
-use Rattle.std.proofs.Common.{ℤ, arith, w64, to_z, of_z}
+use Rattle.std.proofs.Common.{arith, w64, to_z, of_z}
 use Rattle.std.proofs.lemmas.Int.{ints, clamps}
 use Rattle.cost.specs.Meaning.{Between}
 use Rattle.network.specs.Records.{numbers}

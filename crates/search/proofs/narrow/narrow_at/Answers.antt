@@ -3,7 +3,7 @@ use Rattle.std.proofs.Common.{◌≡◌, pos, ◌+ℤ◌, ◌-ℤ◌, arith, w64
 use Rattle.std.proofs.lemmas.Int.{ints, to_z-of_z}
 use Rattle.std.proofs.lemmas.List.{get_or-set_same, get_or-set_other}
 use Rattle.network.specs.Records.{numbers}
-use Rattle.search.specs.Turns.{Turns, Narrow}
+use Rattle.search.specs.Turns.{Turns}
 use Rattle.search.proofs.narrow.narrow_at.Goals as goal
 
 pub returns : goal.returns

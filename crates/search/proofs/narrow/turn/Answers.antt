@@ -1,6 +1,6 @@
 -- Each turn asks for the increment half way.
 use Rattle.std.proofs.Common.{arith, rules}
-use Rattle.std.proofs.lemmas.Int.{ints, to_z-of_z}
+use Rattle.std.proofs.lemmas.Int.{ints}
 use Rattle.cost.proofs.Amount.{increment_below}
 use Rattle.search.proofs.Turning.{halving_starts, halving_up}
 use Rattle.search.proofs.narrow.turn.Goals as goal

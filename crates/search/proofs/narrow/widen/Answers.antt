@@ -1,8 +1,8 @@
 -- Each turn asks one cost more.
-use Rattle.std.proofs.Common.{◌≡◌, ◌≤◌, map, pos, arith, w64, to_z, of_z}
+use Rattle.std.proofs.Common.{◌≡◌, map, pos, arith, w64, to_z, of_z}
 use Rattle.std.proofs.lemmas.Int.{ints}
-use Rattle.cost.specs.Meaning.{last, Lawful}
-use Rattle.network.specs.Records.{numbers, cost_of}
+use Rattle.cost.specs.Meaning.{last}
+use Rattle.network.specs.Records.{cost_of}
 use Rattle.network.proofs.Costs.{cost_read}
 use Rattle.search.proofs.Pairwise.{two_more}
 use Rattle.search.proofs.narrow.widen.Goals as goal

@@ -1,5 +1,5 @@
 -- The arcs before carry their loads, and the ends of all are as they were.
-use Rattle.std.proofs.Common.{◌≡◌, ℕ, ◌<◌, length}
+use Rattle.std.proofs.Common.{◌≡◌, ℕ, ◌<◌}
 use Rattle.network.specs.Records.{numbers}
 use Rattle.search.specs.Settled.{arc_at, SameArcs}
 use Rattle.search.proofs.settle.carry.Given as goal

@@ -1,5 +1,5 @@
 -- What was found is written into the records.
-use Rattle.std.proofs.Common.{◌≡◌, ℕ, ◌<◌, map, length, pos, ap, ◌∙◌, arith, rules}
+use Rattle.std.proofs.Common.{map, pos, ap, ◌∙◌, arith, rules}
 use Rattle.std.proofs.lemmas.List.{get_or-replicate}
 use Rattle.std.proofs.lemmas.Bool.{true≢false, false≢true}
 use Rattle.network.specs.Records.{net_of, numbers}

@@ -1,5 +1,5 @@
 -- The nodes before have their prices and marks, and the supplies of all are as they were.
-use Rattle.std.proofs.Common.{◌≡◌, ℕ, ◌<◌, length}
+use Rattle.std.proofs.Common.{◌≡◌, ℕ, ◌<◌}
 use Rattle.network.specs.Records.{numbers}
 use Rattle.flow.specs.Labels.{reached_in}
 use Rattle.search.specs.Settled.{node_at, SameNodes}
