@@ -3,8 +3,7 @@ use Rattle.std.proofs.Common.{◌≡◌, ℕ, zero, suc, List, [], ◌∷◌, ma
 use mathlib.Core.Path.{fun_ext}
 use Rattle.std.proofs.lemmas.List.{length-map}
 use Rattle.cost.specs.Meaning.{Meaning}
-use Rattle.network.specs.Network.{Net}
-use Rattle.network.specs.Records.{no_node, no_arc, net_of, cost_of}
+use Rattle.network.specs.Records.{no_node, no_arc, net_of}
 use Rattle.network.specs.declared.records.Node.{Node}
 use Rattle.network.specs.declared.records.Arc.{Arc}
 use Rattle.ledger.specs.Books.{Book, network_of, opened, reset_node, reset_arc}

@@ -1,11 +1,11 @@
 -- What a charge and a floor that were answered say: the loads meet the network, and the floor is at most the charge.
-use Rattle.std.proofs.Common.{◌≡◌, ℕ, true, ◌&&◌, eqb, List, length, ℤ, pos, ◌≤ℤ◌, Some, None, Ok, Err, Option, sym, refl, ap, ◌∙◌, arith, w64, SFits, to_z, of_z}
+use Rattle.std.proofs.Common.{◌≡◌, ℕ, true, ◌&&◌, eqb, List, length, ℤ, ◌≤ℤ◌, Some, None, Ok, Option, sym, refl, ap, ◌∙◌, arith, w64, SFits, to_z, of_z}
 use Rattle.std.specs.Option.{option_map}
 use Rattle.std.proofs.lemmas.Int.{to_z-of_z}
 use Rattle.std.proofs.lemmas.Bool.{eqb-true}
 use Rattle.std.proofs.lemmas.Bool.Decides.{nat_tests}
 use Rattle.cost.specs.Meaning.{Meaning}
-use Rattle.cost.specs.Places.{or_else, unless}
+use Rattle.cost.specs.Places.{unless}
 use Rattle.cost.proofs.Refusing.{neither, none_below}
 use Rattle.network.specs.Network.{Meets, Cheapest, Highest, charge, floor}
 use Rattle.network.specs.Records.{net_of, numbers, Sound, out_of_range, unmet}

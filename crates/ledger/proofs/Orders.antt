@@ -1,11 +1,10 @@
 -- Which of several conditions a call is refused by, from what each of its tests answered.
-use Rattle.std.proofs.Common.{◌≡◌, ℕ, zero, suc, ◌+◌, ◌<◌, ◌≤◌, Bool, true, false, cond, ◌&&◌, eqb, List, [], ◌∷◌, map, length, get_or, set, ℤ, pos, Some, None, Option, sym, refl, ap, ◌∙◌, arith}
+use Rattle.std.proofs.Common.{◌≡◌, ℕ, zero, suc, ◌+◌, ◌&&◌, eqb, List, [], ◌∷◌, map, length, get_or, set, ℤ, Some, None, Option, sym, refl, ap, ◌∙◌, arith}
 use Rattle.std.specs.Option.{option_map}
-use Rattle.std.proofs.lemmas.List.{length-map}
 use Rattle.std.proofs.lemmas.Int.{ints}
 use Rattle.std.proofs.lemmas.Bool.Decides.{nat_tests}
 use Rattle.cost.specs.Limits.{outside, first_outside}
-use Rattle.cost.specs.Meaning.{Meaning, Lawful, empty_cost}
+use Rattle.cost.specs.Meaning.{Meaning, Lawful}
 use Rattle.cost.specs.Places.{or_else, kept_or}
 use Rattle.cost.specs.declared.numbers.NumberFault.TheVariants.{Outside}
 use Rattle.cost.proofs.Lists.{empty_lawful}

@@ -1,5 +1,5 @@
 -- What a settled or barred book says of its network.
-use Rattle.std.proofs.Common.{◌≡◌, ℕ, zero, suc, ◌+◌, ◌-◌, ◌<◌, Bool, true, false, cond, ◌&&◌, eqb, ◌↔◌, List, map, length, get_or, ℤ, pos, nat_abs, is_ok, Some, None, Ok, Err, Option, Result, sym, refl, ap, ◌∙◌, subst, arith}
+use Rattle.std.proofs.Common.{◌≡◌, ℕ, zero, suc, ◌+◌, ◌-◌, ◌<◌, Bool, true, false, cond, eqb, ◌↔◌, List, map, length, get_or, ℤ, pos, nat_abs, is_ok, Some, None, Ok, Err, Option, Result, sym, refl, ap, ◌∙◌, subst, arith}
 use lib.Signed.{le_z}
 use Rattle.std.proofs.lemmas.List.{ext_get_or, get_or-map, length-map}
 use Rattle.std.proofs.lemmas.Int.{ints}
@@ -7,7 +7,7 @@ use Rattle.std.proofs.lemmas.Bool.{eqb-true, eq-eqb, true≢false}
 use Rattle.cost.specs.Meaning.{Meaning}
 use Rattle.cost.proofs.Refusing.{neither, passed}
 use Rattle.network.specs.Network.{Net, Ends, Meets, surplus, charge, floor, Cheapest, Highest}
-use Rattle.network.specs.Records.{no_node, no_arc, is_zero, net_of, Sound}
+use Rattle.network.specs.Records.{no_node, no_arc, is_zero, Sound}
 use Rattle.network.specs.declared.records.Node.{Node}
 use Rattle.network.specs.declared.records.Arc.{Arc}
 use Rattle.network.proofs.Changes.{charge_same, floor_same}
@@ -20,8 +20,8 @@ use Rattle.search.specs.Settled.{loads_of, prices_of, marks_of, SameNodes, SameA
 use Rattle.search.proofs.Whole.{meets_same, over_full_same}
 use Rattle.ledger.specs.Books.{Book, network_of, opened, reset_node, reset_arc}
 use Rattle.ledger.specs.Calls.{needed}
-use Rattle.ledger.specs.Lookups.{place_in, at_number}
-use Rattle.ledger.specs.Settling.{settle_refusal, supply_sum, loads_in, prices_in, marks_in, marked_count, SameNetwork, SettledBook, BarredBook, amounts_in, SettlesUnless, Settles, Feasible, EqualWhenBest, Answers}
+use Rattle.ledger.specs.Lookups.{place_in}
+use Rattle.ledger.specs.Settling.{settle_refusal, supply_sum, loads_in, prices_in, marks_in, marked_count, SettledBook, BarredBook, amounts_in, SettlesUnless, Settles, Feasible, EqualWhenBest, Answers}
 use Rattle.ledger.specs.declared.faults.SheetFault.{SheetFault}
 use Rattle.ledger.specs.declared.faults.SheetFault.TheVariants as fault
 use Rattle.ledger.specs.declared.settling.Amounts.{Amounts}

@@ -1,7 +1,6 @@
 -- The sum of the supplies, and the count of the marks, as loops gather them.
-use Rattle.std.proofs.Common.{◌≡◌, ℕ, suc, ◌+◌, ◌<◌, ◌≤◌, Bool, true, false, List, length, get_or, ℤ, pos, refl, add-one, arith}
+use Rattle.std.proofs.Common.{◌≡◌, ℕ, ◌+◌, ◌<◌, ◌≤◌, Bool, true, false, List, length, get_or, ℤ, add-one, arith}
 use Rattle.std.proofs.lemmas.Int.{ints}
-use Rattle.std.proofs.lemmas.Bool.{cond-true, cond-false}
 use Rattle.network.specs.Sums.{sum}
 use Rattle.network.specs.Records.{no_node, Sound}
 use Rattle.network.specs.declared.records.Node.{Node}

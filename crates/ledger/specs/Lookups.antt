@@ -1,5 +1,5 @@
 -- What looking something up in a book answers.
-use Rattle.std.specs.Prelude.{ℕ, ◌+◌, ◌-◌, Bool, true, false, cond, ◌&&◌, length, ℤ, pos, Some, None, Ok, Err, Option, Result, int_le, slice_index_or}
+use Rattle.std.specs.Prelude.{ℕ, ◌+◌, ◌-◌, Bool, cond, ◌&&◌, length, ℤ, pos, Some, None, Ok, Err, Option, Result, int_le, slice_index_or}
 use Rattle.cost.specs.Meaning.{natural}
 use Rattle.network.specs.Records.{no_node, no_arc}
 use Rattle.cost.specs.Places.{unless}

@@ -1,5 +1,5 @@
 -- Each exit of `charged` is the refusal that its tests lead to.
-use Rattle.std.proofs.Common.{◌≡◌, map, length, sym, ap, ◌∙◌, arith, rules}
+use Rattle.std.proofs.Common.{map, length, sym, arith, rules}
 use Rattle.std.proofs.lemmas.List.{length-map}
 use Rattle.network.proofs.Nets.{ranged_if_none, charge_is}
 use Rattle.ledger.proofs.Orders.{listed, refused_by_range, refused_by_surplus, lawful_at, small_loads}

@@ -1,8 +1,6 @@
 -- Each exit of `floored` is the refusal that its tests lead to.
-use Rattle.std.proofs.Common.{◌≡◌, map, length, sym, ap, ◌∙◌, arith, rules}
+use Rattle.std.proofs.Common.{map, length, arith, rules}
 use Rattle.std.proofs.lemmas.List.{length-map}
-use Rattle.cost.proofs.Refusing.{all_inside}
-use Rattle.ledger.specs.Limits.{price_limits}
 use Rattle.ledger.proofs.Orders.{listed, refused_by_price, within_prices}
 use Rattle.ledger.proofs.pricing.floored.Goals as goal
 

@@ -1,5 +1,5 @@
 -- The loads that are written down are those that the arcs carry.
-use Rattle.std.proofs.Common.{◌≡◌, ◌-◌, [], map, length, take, sym, ◌∙◌, arith, rules}
+use Rattle.std.proofs.Common.{◌-◌, [], map, length, take, sym, ◌∙◌, arith, rules}
 use Rattle.network.specs.Records.{net_of, numbers}
 use Rattle.network.proofs.Nets.{charge_is}
 use Rattle.network.proofs.Changes.{charge_same}

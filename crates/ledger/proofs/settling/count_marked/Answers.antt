@@ -1,5 +1,5 @@
 -- Each turn counts the next node where it is marked.
-use Rattle.std.proofs.Common.{arith, rules}
+use Rattle.std.proofs.Common.{arith}
 use Rattle.search.specs.Settled.{marks_of}
 use Rattle.ledger.proofs.Supplies.{count_more, count_less}
 use Rattle.ledger.proofs.settling.count_marked.Goals as goal

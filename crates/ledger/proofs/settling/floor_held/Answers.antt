@@ -1,5 +1,5 @@
 -- The prices that are written down are those that the nodes have.
-use Rattle.std.proofs.Common.{◌≡◌, ◌-◌, map, length, take, sym, ◌∙◌, arith, rules}
+use Rattle.std.proofs.Common.{◌-◌, map, length, take, arith, rules}
 use Rattle.network.specs.Records.{net_of, numbers}
 use Rattle.network.proofs.Nets.{sound_ends}
 use Rattle.network.proofs.Changes.{floor_same}
