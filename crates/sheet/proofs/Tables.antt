@@ -1,5 +1,5 @@
 -- A sheet's tables and its book: as many records as it has nodes and arcs, and the same ones.
-use Rattle.std.proofs.Common.{◌≡◌, ℕ, ◌+◌, ◌-◌, ◌<◌, map, length, get_or, set, pos, negsuc, sym, ap, ◌∙◌, subst, arith}
+use Rattle.std.proofs.Common.{◌≡◌, ℕ, ◌+◌, ◌<◌, map, length, get_or, set, pos, negsuc, sym, ap, ◌∙◌, subst, arith}
 use Rattle.std.proofs.lemmas.List.{length-map, length-take-le, get_or-map, get_or-set_other, get_or-set_same, get_or-take}
 use Rattle.cost.specs.Meaning.{Between}
 use Rattle.cost.proofs.FirstPlace.{by_eq}

@@ -1,5 +1,5 @@
 -- A book in the making: what the steps of a draft answer and leave.
-use Rattle.std.specs.Prelude.{ℕ, ◌+◌, ◌-◌, Bool, cond, List, [], ◌∷◌, ◌++◌, length, replicate, ℤ, pos, Some, None, Option, ◌==◌, nat_lt, slice_index_or, slice_set}
+use Rattle.std.specs.Prelude.{ℕ, ◌+◌, ◌-◌, cond, List, [], ◌∷◌, ◌++◌, length, replicate, ℤ, pos, Some, None, Option, ◌==◌, nat_lt, slice_index_or, slice_set}
 use Rattle.std.specs.Option.{option_map}
 use Rattle.cost.specs.Limits.{outside}
 use Rattle.cost.specs.Meaning.{natural}

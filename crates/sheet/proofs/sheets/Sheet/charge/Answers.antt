@@ -1,4 +1,3 @@
-use Rattle.std.proofs.Common.{rules}
 use Rattle.sheet.proofs.Tables.{sheet_sound}
 use Rattle.sheet.proofs.sheets.Sheet.charge.Goals as goal
 

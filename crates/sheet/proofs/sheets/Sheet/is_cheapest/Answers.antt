@@ -1,4 +1,4 @@
-use Rattle.std.proofs.Common.{◌≡◌, map, sym, ◌∙◌, w64, SFits, rules}
+use Rattle.std.proofs.Common.{map, sym, ◌∙◌, w64, SFits, rules}
 use Rattle.sheet.specs.Sheets.{book_of}
 use Rattle.ledger.proofs.Duality.{charge_value, floor_value, equal_best, same_from_bits, bits_from_same}
 use Rattle.sheet.proofs.Tables.{sheet_sound}

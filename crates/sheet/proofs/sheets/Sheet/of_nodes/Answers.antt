@@ -1,33 +1,24 @@
-use Rattle.std.proofs.Common.{◌≡◌, List, [], length, get_or, replicate, pos, negsuc, sym, refl, ap, subst, arith, rules}
+use Rattle.std.proofs.Common.{List, [], pos, negsuc, sym, refl, ap, subst, arith}
 use lib.Signed.{le_z_yes}
 use Rattle.std.proofs.lemmas.List.{get_or-replicate, take-replicate}
 use Rattle.cost.specs.Meaning.{Between}
 use Rattle.network.specs.Records.{no_node}
 use Rattle.network.specs.declared.records.Node.{Node}
-use Rattle.ledger.specs.Books.{Book}
 use Rattle.ledger.specs.declared.standing.Standing.TheVariants.{Open}
 use Rattle.sheet.proofs.sheets.Sheet.of_nodes.Goals as goal
 
 pub invariant_of-result : goal.invariant_of-result
-invariant_of-result c = (
-  refl,
-  (
-    refl,
-    (
-      c.requires,
-      (
-        omega arith,
-        (
-          λ a h. absurd (omega arith),
-          (
-            λ a h. absurd (omega arith),
-            (λ v h. subst (λ (n : Node). Between (negsuc 99999) (pos 100000) n.supply) (sym (get_or-replicate 64 v no_node no_node (omega (arith, c.requires)))) (le_z_yes tt, le_z_yes tt), (λ a h e. absurd (omega arith), tt)),
-          ),
-        ),
-      ),
-    ),
-  ),
-)
+invariant_of-result c =
+    record {
+      node_places = refl;
+      arc_places = refl;
+      few_nodes = c.requires;
+      few_arcs = omega arith;
+      tails = λ a h. absurd (omega arith);
+      heads = λ a h. absurd (omega arith);
+      supplies = λ v h. subst (λ (n : Node). Between (negsuc 99999) (pos 100000) n.supply) (sym (get_or-replicate 64 v no_node no_node (omega (arith, c.requires)))) (le_z_yes tt, le_z_yes tt);
+      loops = λ a h e. absurd (omega arith);
+    }
 
 pub returns : goal.returns
 returns c = ap (λ (nodes : List Node). record { nodes = nodes; arcs = []; standing = Open }) (take-replicate c.args.count 64 no_node c.requires)

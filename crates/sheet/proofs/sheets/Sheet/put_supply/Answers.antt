@@ -1,4 +1,4 @@
-use Rattle.std.proofs.Common.{◌≡◌, get_or, ◌∙◌, w64, SFits, rules}
+use Rattle.std.proofs.Common.{get_or, ◌∙◌, rules}
 use Rattle.std.proofs.lemmas.List.{length-set}
 use Rattle.std.proofs.lemmas.Int.{to_z-of_z}
 use Rattle.network.specs.Records.{no_node}
@@ -10,25 +10,17 @@ use Rattle.sheet.proofs.sheets.Sheet.put_supply.Goals as goal
 pub invariant_of-self : goal.invariant_of-self
 invariant_of-self c =
     let s = c.args.self.now in
-    let fits = c.ranges.amount in (
-      length-set s.table.nodes c.args.v _ ∙ s.node_places,
-      (
-        s.arc_places,
-        (
-          s.few_nodes,
-          (
-            s.few_arcs,
-            (
-              s.tails,
-              (
-                s.heads,
-                (λ k h. put_limit s c.args.v _ (simp to_z-of_z c.requires.1) k h, (s.loops, tt)),
-              ),
-            ),
-          ),
-        ),
-      ),
-    )
+    let fits = c.ranges.amount in
+    record {
+      node_places = length-set s.table.nodes c.args.v _ ∙ s.node_places;
+      arc_places = s.arc_places;
+      few_nodes = s.few_nodes;
+      few_arcs = s.few_arcs;
+      tails = s.tails;
+      heads = s.heads;
+      supplies = λ k h. put_limit s c.args.v _ (simp to_z-of_z c.requires.1) k h;
+      loops = s.loops;
+    }
 
 pub returns : goal.returns
 returns c =

@@ -1,5 +1,5 @@
 -- What the search leaves in the records that are lent to it, it leaves in the book.
-use Rattle.std.proofs.Common.{◌≡◌, true, false, map, length, sym, ap, ◌∙◌, arith, rules}
+use Rattle.std.proofs.Common.{◌≡◌, true, false, map, length, sym, ◌∙◌, arith}
 use Rattle.network.specs.Records.{net_of}
 use Rattle.search.specs.Settled.{SameNodes, SameArcs, Settled, Barred}
 use Rattle.sheet.specs.Sheets.{book_of}
@@ -24,25 +24,17 @@ invariant_of-self g c =
     let nodes = c.settle.new.nodes in
     let arcs = c.settle.new.arcs in
     let many_nodes = c.settle.ensures.nodes.many ∙ lent_nodes s in
-    let many_arcs = c.settle.ensures.arcs.many ∙ lent_arcs s in (
-      fronted_length s.node_count s.table.nodes nodes (omega (arith, s.few_nodes, s.node_places)) many_nodes ∙ s.node_places,
-      (
-        fronted_length s.arc_count s.table.arcs arcs (omega (arith, s.few_arcs, s.arc_places)) many_arcs ∙ s.arc_places,
-        (
-          s.few_nodes,
-          (
-            s.few_arcs,
-            (
-              λ a h. rw (tail_back s nodes arcs many_nodes many_arcs c.settle.ensures.arcs a h) (s.tails a h),
-              (
-                λ a h. rw (head_back s nodes arcs many_nodes many_arcs c.settle.ensures.arcs a h) (s.heads a h),
-                (λ v h. rw (supply_back s nodes arcs many_nodes many_arcs c.settle.ensures.nodes v h) (s.supplies v h), (λ a h e. s.loops a h (sym (tail_back s nodes arcs many_nodes many_arcs c.settle.ensures.arcs a h) ∙ e ∙ head_back s nodes arcs many_nodes many_arcs c.settle.ensures.arcs a h), tt)),
-              ),
-            ),
-          ),
-        ),
-      ),
-    )
+    let many_arcs = c.settle.ensures.arcs.many ∙ lent_arcs s in
+    record {
+      node_places = fronted_length s.node_count s.table.nodes nodes (omega (arith, s.few_nodes, s.node_places)) many_nodes ∙ s.node_places;
+      arc_places = fronted_length s.arc_count s.table.arcs arcs (omega (arith, s.few_arcs, s.arc_places)) many_arcs ∙ s.arc_places;
+      few_nodes = s.few_nodes;
+      few_arcs = s.few_arcs;
+      tails = λ a h. rw (tail_back s nodes arcs many_nodes many_arcs c.settle.ensures.arcs a h) (s.tails a h);
+      heads = λ a h. rw (head_back s nodes arcs many_nodes many_arcs c.settle.ensures.arcs a h) (s.heads a h);
+      supplies = λ v h. rw (supply_back s nodes arcs many_nodes many_arcs c.settle.ensures.nodes v h) (s.supplies v h);
+      loops = λ a h e. s.loops a h (sym (tail_back s nodes arcs many_nodes many_arcs c.settle.ensures.arcs a h) ∙ e ∙ head_back s nodes arcs many_nodes many_arcs c.settle.ensures.arcs a h);
+    }
 
 pub returns : goal.returns
 returns g c =

@@ -1,5 +1,5 @@
 -- Each way in which settling ends, and what it says of the network.
-use Rattle.std.proofs.Common.{◌≡◌, ℕ, true, false, ◌↔◌, List, [], map, length, is_ok, Some, None, Ok, Err, Result, sym, ap, ◌∙◌, subst, arith, w64, SFits, rules}
+use Rattle.std.proofs.Common.{◌≡◌, false, ◌↔◌, List, [], map, length, is_ok, Some, None, Ok, Err, Result, sym, ap, ◌∙◌, subst, arith, w64, SFits, rules}
 use Rattle.std.proofs.lemmas.List.{length-map}
 use Rattle.std.proofs.lemmas.Int.{to_z-of_z}
 use Rattle.cost.specs.Meaning.{Meaning}

@@ -1,16 +1,12 @@
-use Rattle.std.proofs.Common.{◌≡◌, length, get_or, take, set, Some, None, sym, ap, ◌∙◌, w64, SFits, rules}
+use Rattle.std.proofs.Common.{◌≡◌, length, Some, None, sym, ap, ◌∙◌, rules}
 use Rattle.std.proofs.lemmas.Int.{to_z-of_z}
 use Rattle.cost.specs.Limits.{outside}
-use Rattle.network.specs.Records.{no_node}
-use Rattle.network.specs.declared.records.Node.{Node}
 use Rattle.sheet.specs.Sheets.{book_of}
 use Rattle.ledger.specs.Books.{opened}
-use Rattle.ledger.specs.Calls.{with_supply}
 use Rattle.ledger.specs.Limits.{supply_limits}
 use Rattle.ledger.specs.Lookups.{place_in}
 use Rattle.ledger.proofs.Orders.{supply_accepted, supplied_at}
-use Rattle.ledger.proofs.Places.{place_below, take_of_set}
-use Rattle.sheet.proofs.Tables.{nodes_counted, node_kept}
+use Rattle.sheet.proofs.Tables.{nodes_counted}
 use Rattle.sheet.proofs.sheets.Sheet.supply.Goals as goal
 
 pub returns : goal.returns

@@ -1,5 +1,5 @@
-use Rattle.std.proofs.Common.{◌≡◌, sym, ap, ◌∙◌, rules}
-use Rattle.ledger.proofs.Places.{place_below, asked}
+use Rattle.std.proofs.Common.{rules}
+use Rattle.ledger.proofs.Places.{place_below}
 use Rattle.sheet.proofs.Tables.{nodes_counted, node_kept}
 use Rattle.sheet.proofs.sheets.Sheet.supply_of.Goals as goal
 
