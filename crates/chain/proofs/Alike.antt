@@ -1,10 +1,10 @@
 -- Books that differ in loads, prices, marks and standing alone: their refusals are the same, and so are their edits.
-use Rattle.std.proofs.Common.{◌≡◌, ℕ, ◌-◌, List, [], ◌∷◌, map, length, get_or, set, ℤ, pos, sym, refl, ap, ◌∙◌}
+use Rattle.std.proofs.Common.{◌≡◌, ℕ, ◌-◌, List, [], ◌∷◌, map, get_or, set, ℤ, refl, ap, ◌∙◌}
 use Rattle.std.proofs.lemmas.List.{map-set}
 use Rattle.cost.specs.Meaning.{Meaning, natural}
 use Rattle.network.specs.Network.{Net, Ends}
 use Rattle.network.specs.Sums.{sum}
-use Rattle.network.specs.Records.{no_node, net_of, Sound}
+use Rattle.network.specs.Records.{no_node}
 use Rattle.network.specs.declared.records.Node.{Node}
 use Rattle.network.specs.declared.records.Arc.{Arc}
 use Rattle.ledger.specs.Books.{Book, network_of, opened, reset_node, reset_arc}

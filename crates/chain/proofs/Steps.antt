@@ -1,5 +1,5 @@
 -- What is known of a chain is known after one call more.
-use Rattle.std.proofs.Common.{◌≡◌, ℕ, ◌⊎◌, ◌↔◌, List, [], ◌∷◌, map, length, ℤ, IfSome, Some, None, Ok, Err, Option, Result, sym, refl, ap, ◌∙◌, subst, inl, inr, arith}
+use Rattle.std.proofs.Common.{◌≡◌, ℕ, ◌⊎◌, List, map, length, ℤ, IfSome, Some, None, Ok, Err, Option, Result, sym, refl, ap, ◌∙◌, subst, inl, inr, arith}
 use Rattle.std.proofs.lemmas.List.{length-map}
 use Rattle.cost.specs.Meaning.{Meaning}
 use Rattle.cost.specs.Places.{kept_or}
@@ -10,7 +10,6 @@ use Rattle.ledger.specs.Calls.{supply_refusal, supplied, swap_refusal, swapped}
 use Rattle.ledger.specs.Settling.{settle_refusal, SameNetwork, SettlesUnless, Settles, Answers, loads_in, marks_in}
 use Rattle.ledger.specs.declared.faults.SheetFault.{SheetFault}
 use Rattle.ledger.specs.declared.settling.Amounts.{Amounts}
-use Rattle.ledger.specs.declared.standing.Standing.{Standing}
 use Rattle.ledger.specs.declared.standing.Standing.TheVariants as standing
 use Rattle.ledger.proofs.Bare.{node_count}
 use Rattle.ledger.proofs.Outcomes.{answers_unless}

@@ -16,7 +16,7 @@ use Rattle.chain.specs.declared.calls.Call.{Call}
 use Rattle.chain.specs.declared.calls.Kind.{Kind}
 use Rattle.chain.specs.declared.calls.Progress.{Progress}
 use Rattle.chain.proofs.Alike.{network_alike, settle_refusal_alike}
-use Rattle.chain.proofs.Steps.{put_in, At, Went, one_more, stands_open, nothing_is_no_settle}
+use Rattle.chain.proofs.Steps.{put_in, At, one_more, stands_open, nothing_is_no_settle}
 
 -- what a further call sets
 set_last_more : {C : Type 0} (d : Desk C) (xs : List (Call C)) (x : Call C) → set_last d (xs ++ x ∷ []) ≡ set_by x (set_last d xs)

@@ -1,5 +1,5 @@
 -- A copy of the book is settled in its place.
-use Rattle.std.proofs.Common.{ℕ, map, length, ap, subst}
+use Rattle.std.proofs.Common.{ℕ, map, subst}
 use Rattle.std.proofs.lemmas.List.{length-map}
 use Rattle.sheet.specs.Sheets.{book_of}
 use Rattle.ledger.specs.Books.{network_of}

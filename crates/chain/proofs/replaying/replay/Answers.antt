@@ -1,12 +1,11 @@
 -- Each call takes the chain one further, and its end says what is promised.
-use Rattle.std.proofs.Common.{◌≡◌, List, take, subst, rules}
+use Rattle.std.proofs.Common.{List, subst, rules}
 use Rattle.std.proofs.lemmas.List.{take_all}
 use Rattle.sheet.specs.Sheets.{book_of}
 use Rattle.sheet.proofs.Tables.{sheet_sound}
 use Rattle.chain.specs.Chains.{Desk}
 use Rattle.chain.specs.declared.calls.Call.{Call}
 use Rattle.chain.proofs.Whole.{Reached, reached_more, replayed_kept, replayed_asked}
-use Rattle.chain.proofs.replaying.replay.Given as given
 use Rattle.chain.proofs.replaying.replay.Goals as goal
 
 pub loop-call-preserved : goal.loop-call-preserved
