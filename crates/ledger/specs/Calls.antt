@@ -44,12 +44,6 @@ floor_refusal nodes arcs costs prices =
 abbrev pub floor_answer : Book → List Meaning → List ℤ → Result ℤ SheetFault
 floor_answer b costs prices = unless (floor_refusal b.nodes b.arcs costs prices) (floor (network_of b costs) (numbers prices))
 
--- Why charge and floor are not both answered: a wrong number of costs, loads or prices, then a price outside its limits, then what refuses the charge.
-abbrev pub both_refusal : Book → List Meaning → List ℤ → List ℤ → Option SheetFault
-both_refusal b costs loads prices =
-    or_else (needed (length costs == length b.arcs && length loads == length b.arcs) fault.List)
-    (or_else (floor_refusal b.nodes b.arcs costs prices) (charge_refusal b.nodes b.arcs costs loads))
-
 -- ---- edits
 
 -- A node with another supply.

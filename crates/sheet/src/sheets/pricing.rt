@@ -1,16 +1,17 @@
 // What loads are charged and what prices promise, for the book of a sheet.
 ghost use Rattle.std.specs.Prelude.{◌≡◌, true, map, ◌≤ℤ◌, IfOk, Ok, Decides};
 ghost use Rattle.std.specs.Result.{result_err};
+ghost use Rattle.cost.specs.Places.{or_else};
 ghost use Rattle.network.specs.Network.{charge, floor, Cheapest, Highest};
 ghost use Rattle.network.specs.Records.{numbers};
 ghost use Rattle.sheet.specs.Sheets.{book_of};
 ghost use Rattle.ledger.specs.Books.{network_of};
-ghost use Rattle.ledger.specs.Calls.{both_refusal, charge_answer, floor_answer};
+ghost use Rattle.ledger.specs.Calls.{charge_answer, floor_answer};
 
 use crate::sheets::Sheet;
 use cost::costs::Cost;
 use ledger::faults::SheetFault;
-use ledger::pricing::{charged, check_lists, floored};
+use ledger::pricing::{charged, floored};
 use network::records::{Arc, Node};
 
 impl Sheet {
@@ -51,13 +52,11 @@ impl Sheet {
     ) -> Result<(i64, i64), SheetFault>
         ensures floor { IfOk result (λ both. Ok both.0 ≡ floor_answer (book_of self.now) (map C.Cost.meaning costs.now) prices.now) }
         ensures charge { IfOk result (λ both. Ok both.1 ≡ charge_answer (book_of self.now) (map C.Cost.meaning costs.now) loads.now) }
-        ensures refusal { result_err result ≡ both_refusal (book_of self.now) (map C.Cost.meaning costs.now) loads.now prices.now }
+        ensures refusal { result_err result ≡ or_else (result_err (charge_answer (book_of self.now) (map C.Cost.meaning costs.now) loads.now)) (result_err (floor_answer (book_of self.now) (map C.Cost.meaning costs.now) prices.now)) }
         ensures duality { IfOk result (λ both. both.0 ≤ℤ both.1) }
     {
-        let arcs = self.arc_count();
-        check_lists(costs.len(), arcs, loads.len(), arcs)?;
-        let floor = self.floor(costs, prices)?;
         let charge = self.charge(costs, loads)?;
+        let floor = self.floor(costs, prices)?;
         Ok((floor, charge))
     }
 
@@ -69,7 +68,7 @@ impl Sheet {
         loads: &[i64],
         prices: &[i64],
     ) -> Result<bool, SheetFault>
-        ensures refusal { result_err result ≡ both_refusal (book_of self.now) (map C.Cost.meaning costs.now) loads.now prices.now }
+        ensures refusal { result_err result ≡ or_else (result_err (charge_answer (book_of self.now) (map C.Cost.meaning costs.now) loads.now)) (result_err (floor_answer (book_of self.now) (map C.Cost.meaning costs.now) prices.now)) }
         ensures equal { IfOk result (λ equal. Decides equal (floor (network_of (book_of self.now) (map C.Cost.meaning costs.now)) (numbers prices.now) ≡ charge (network_of (book_of self.now) (map C.Cost.meaning costs.now)) (numbers loads.now))) }
         ensures best { IfOk result (λ equal. equal ≡ true → Cheapest (network_of (book_of self.now) (map C.Cost.meaning costs.now)) (numbers loads.now) × Highest (network_of (book_of self.now) (map C.Cost.meaning costs.now)) (numbers prices.now)) }
     {

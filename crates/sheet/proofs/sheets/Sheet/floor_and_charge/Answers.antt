@@ -1,5 +1,4 @@
 use Rattle.std.proofs.Common.{map, rules}
-use Rattle.std.proofs.lemmas.List.{length-map}
 use Rattle.sheet.specs.Sheets.{book_of}
 use Rattle.ledger.proofs.Duality.{floor_under_charge}
 use Rattle.sheet.proofs.Tables.{sheet_sound}
@@ -9,9 +8,4 @@ pub returns : goal.returns
 returns g c =
     let s = c.args.self.now in
     let under = floor_under_charge (book_of s) (sheet_sound s) (map g.C.Cost.meaning c.args.costs.now) c.args.loads.now c.args.prices.now c.in_ok-charge.charge c.in_ok-floor.floor c.in_ok-charge.ensures c.in_ok-floor.ensures in
-    search rules
-
-pub returns-in_err-check_lists : goal.returns-in_err-check_lists
-returns-in_err-check_lists g c =
-    let long = length-map c.args.costs.now g.C.Cost.meaning in
     search rules
