@@ -1,5 +1,5 @@
 -- Texts of which it is known how each step goes.
-use Rattle.std.specs.Prelude.{◌≡◌, ℕ, List, [], ◌∷◌, ℤ, pos, negsuc, Ok, Err, codes}
+use Rattle.std.specs.Prelude.{◌≡◌, [], ◌∷◌, pos, negsuc, Ok, Err, codes}
 use Rattle.text.specs.Steps.{past, number_at, word_at, space_at, line_end_at, text_end_at, numbers_at}
 
 -- A number is accepted in one form only, with at most ten digits.

@@ -2,8 +2,8 @@ use Rattle.std.proofs.Common.{rules}
 use Rattle.text.proofs.Digits.{digits_more, digits_over}
 use Rattle.text.proofs.numerals.all_digits.Goals as goal
 
-pub returns-then-not-is-ascii-digit : goal.returns-then-not-is-ascii-digit
-returns-then-not-is-ascii-digit c = let more = digits_more c.args.bytes.now c.loop-byte.byte-index c.loop-byte-test.true in search rules
+pub returns-then-not-is_ascii_digit : goal.returns-then-not-is_ascii_digit
+returns-then-not-is_ascii_digit c = let more = digits_more c.args.bytes.now c.loop-byte.byte-index c.loop-byte-test.true in search rules
 
 pub loop-byte-preserved : goal.loop-byte-preserved
 loop-byte-preserved c = let more = digits_more c.args.bytes.now c.loop-byte.byte-index c.loop-byte-test.true in search rules

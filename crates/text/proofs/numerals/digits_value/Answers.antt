@@ -2,16 +2,16 @@ use Rattle.std.proofs.Common.{arith, rules}
 use Rattle.text.proofs.Digits.{next_digit, next_small, next_value, last_value}
 use Rattle.text.proofs.numerals.digits_value.Goals as goal
 
-pub overflow-mul-number : goal.overflow-mul-number
-overflow-mul-number c =
+pub overflow_mul-number : goal.overflow_mul-number
+overflow_mul-number c =
     let small = next_small c.args.digits.now c.requires c.loop-digit.number c.loop-digit.digit-index c.loop-digit-test.true c.loop-digit.invariant in
     omega arith
 
-pub overflow-sub-digit : goal.overflow-sub-digit
-overflow-sub-digit c = (next_digit c.args.digits.now c.requires c.loop-digit.number c.loop-digit.digit-index c.loop-digit-test.true c.loop-digit.invariant).0
+pub overflow_sub-digit : goal.overflow_sub-digit
+overflow_sub-digit c = (next_digit c.args.digits.now c.requires c.loop-digit.number c.loop-digit.digit-index c.loop-digit-test.true c.loop-digit.invariant).0
 
-pub overflow-add-number : goal.overflow-add-number
-overflow-add-number c =
+pub overflow_add-number : goal.overflow_add-number
+overflow_add-number c =
     let small = next_small c.args.digits.now c.requires c.loop-digit.number c.loop-digit.digit-index c.loop-digit-test.true c.loop-digit.invariant in
     search rules
 

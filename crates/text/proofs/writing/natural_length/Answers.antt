@@ -3,8 +3,8 @@ use Rattle.std.proofs.lemmas.Fmt.{length-decimal-le}
 use Rattle.text.proofs.Spelling.{length_step, length_digit}
 use Rattle.text.proofs.writing.natural_length.Goals as goal
 
-pub overflow-add-count : goal.overflow-add-count
-overflow-add-count c =
+pub overflow_add-count : goal.overflow_add-count
+overflow_add-count c =
     let few = length-decimal-le 20 c.args.number (omega arith) (omega arith) (omega arith) in
     let step = length_step c.loop-rest.rest c.loop-rest-test.true (omega (arith, c.loop-rest.invariant)) in
     omega (arith, c.loop-rest.invariant)

@@ -3,20 +3,20 @@ use Rattle.text.specs.Fields.{decimal}
 use Rattle.text.proofs.Spaces.{decimal_short, length_spaced_more, spaced_all}
 use Rattle.text.proofs.writing.numbers_length.Goals as goal
 
-number : (c : goal.After-decimal-length) → ℤ
+number : (c : goal.After-decimal_length) → ℤ
 number c = get_or c.args.numbers.now c.loop-number.number-index (pos 0)
 
-told : (c : goal.After-decimal-length) → (c.decimal-length.result ≡ length (decimal (number c))) × (length (decimal (number c)) ≤ 21)
+told : (c : goal.After-decimal_length) → (c.decimal_length.result ≡ length (decimal (number c))) × (length (decimal (number c)) ≤ 21)
 unfolding number
 told c =
     let fits : SFits w64 (number c) = search rules in
     (search rules, decimal_short (number c) fits)
 
-pub overflow-add-count : goal.overflow-add-count
-overflow-add-count c = omega (arith, told c)
+pub overflow_add-count : goal.overflow_add-count
+overflow_add-count c = omega (arith, told c)
 
-pub overflow-add-count-in-loop-number : goal.overflow-add-count-in-loop-number
-overflow-add-count-in-loop-number c = omega (arith, told c, c.loop-number.invariant, c.requires)
+pub overflow_add-count-in-loop-number : goal.overflow_add-count-in-loop-number
+overflow_add-count-in-loop-number c = omega (arith, told c, c.loop-number.invariant, c.requires)
 
 pub loop-number-preserved : goal.loop-number-preserved
 unfolding number

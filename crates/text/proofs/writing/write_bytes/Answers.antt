@@ -9,6 +9,6 @@ returns c =
     record {
       next = refl;
       into =
-          put_mid-paste c.args.at _ c.args.into.now _ bytes (length bytes) c.copy-from-slice.ensures.after (omega arith) refl
+          put_mid-paste c.args.at _ c.args.into.now _ bytes (length bytes) c.copy_from_slice.ensures.after (omega arith) refl
           ∙ paste_all c.args.into.now c.args.at bytes (length bytes) refl;
     }

@@ -9,12 +9,12 @@ use Rattle.text.proofs.writing.write_decimal.Goals as goal
 pub returns-then-number-lt0 : goal.returns-then-number-lt0
 returns-then-number-lt0 c =
     let below : lt_z c.args.number (pos 0) ≡ true = search rules in
-    let size : c.unsigned-abs-magnitude.result ≡ nat_abs c.args.number = search rules in
-    let text : decimal c.args.number ≡ 45 ∷ natural-text c.unsigned-abs-magnitude.result = decimal_minus c.args.number c.unsigned-abs-magnitude.result below size in
+    let size : c.unsigned_abs-magnitude.result ≡ nat_abs c.args.number = search rules in
+    let text : decimal c.args.number ≡ 45 ∷ natural-text c.unsigned_abs-magnitude.result = decimal_minus c.args.number c.unsigned_abs-magnitude.result below size in
     record {
       next = omega (arith, ap length text);
       into =
-          written_then c.args.into.now c.args.at (45 ∷ []) (natural-text c.unsigned-abs-magnitude.result) (omega (arith, c.requires))
-          c.write-byte-next.ensures.into c.write-byte-next.ensures.next c.write-natural.ensures.into
+          written_then c.args.into.now c.args.at (45 ∷ []) (natural-text c.unsigned_abs-magnitude.result) (omega (arith, c.requires))
+          c.write_byte-next.ensures.into c.write_byte-next.ensures.next c.write_natural.ensures.into
           ∙ ap (written c.args.into.now c.args.at) (sym text);
     }
