@@ -1,5 +1,5 @@
 -- A line is read only where it stands.
-use Rattle.std.proofs.Common.{◌≡◌, ℕ, ◌+◌, ◌-◌, true, cond, List, [], ◌∷◌, ◌++◌, length, ℤ, pos, Some, None, Ok, Err, codes, Option, sym, append_assoc, arith}
+use Rattle.std.proofs.Common.{◌≡◌, ℕ, ◌-◌, true, cond, List, [], ◌∷◌, ◌++◌, length, ℤ, pos, Some, None, Ok, Err, codes, Option, sym, append_assoc, arith}
 use Rattle.cost.specs.Limits.{within}
 use Rattle.cost.specs.Meaning.{Between}
 use Rattle.cost.proofs.Refusing.{between}
