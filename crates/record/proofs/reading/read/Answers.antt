@@ -1,4 +1,4 @@
-use Rattle.std.proofs.Common.{◌-◌, sym, arith}
+use Rattle.std.proofs.Common.{sym, arith}
 use Rattle.std.proofs.lemmas.Result.{err_from_is_err_and}
 use Rattle.record.proofs.Closing.{reading_refused, reading_stopped, reading_cut, reading_made, reads_refused, reads_made, none_filled}
 use Rattle.record.specs.Readings.{Kind}
