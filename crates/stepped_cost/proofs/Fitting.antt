@@ -1,22 +1,20 @@
 -- Pieces that keep their laws are those that no condition refuses, and one walk over them tells.
-use Rattle.std.proofs.Common.{◌≡◌, ℕ, zero, suc, ◌+◌, ◌-◌, ◌*◌, ◌<◌, ◌≤◌, Bool, true, false, cond, not, ◌&&◌, eqb, ltb, leb, List, [], ◌∷◌, length, get_or, take, ℤ, pos, negsuc, ◌+ℤ◌, ◌≤ℤ◌, ◌<ℤ◌, is_some, Some, None, Option, sym, refl, ap, ◌∙◌, inl, inr, add-one, arith, below_more}
+use Rattle.std.proofs.Common.{◌≡◌, ℕ, zero, suc, ◌+◌, ◌-◌, ◌*◌, ◌<◌, ◌≤◌, Bool, true, false, not, ◌&&◌, ltb, List, [], ◌∷◌, length, get_or, take, ℤ, pos, negsuc, ◌+ℤ◌, ◌≤ℤ◌, ◌<ℤ◌, is_some, Some, None, Option, sym, refl, ap, ◌∙◌, inl, inr, add-one, arith, below_more}
 use lib.Signed.{le_z, lt_z}
 use Rattle.std.specs.Option.{option_map}
 use Rattle.std.proofs.lemmas.List.{take_all}
 use Rattle.std.proofs.lemmas.Int.{ints}
 use Rattle.std.proofs.lemmas.Bool.{cases_eq}
 use Rattle.std.proofs.lemmas.Bool.Decides.{nat_tests as by_tests}
-use Rattle.cost.specs.Meaning.{total, Between, AllBetween, Rising}
-use Rattle.cost.specs.Places.{first_place, or_else}
-use Rattle.cost.specs.Limits.{within, outside, outside_each, first_outside, load_limits, opening_limits, width_limits, increment_limits}
+use Rattle.cost.specs.Meaning.{total, Between, AllBetween}
+use Rattle.cost.specs.Limits.{within, outside_each, load_limits, opening_limits, width_limits, increment_limits}
 use Rattle.cost.specs.declared.numbers.Limits.{Limits}
 use Rattle.cost.specs.declared.numbers.NumberFault.TheVariants.{Outside}
 use Rattle.cost.specs.declared.refusals.CostFault.{CostFault}
-use Rattle.cost.specs.declared.refusals.CostFault.TheVariants.{Pieces, Number, Long, Falls}
 use Rattle.cost.proofs.FirstPlace.{first_place_none}
 use Rattle.cost.proofs.Lists.{total_more}
-use Rattle.stepped_cost.specs.Stepped.{paired, too_long, falling, stepped_outside, stepped_refusal, PiecesFit}
-use Rattle.stepped_cost.specs.Pieces.{Kept, keeps, last_fits}
+use Rattle.stepped_cost.specs.Stepped.{paired, too_long, falling, stepped_refusal, PiecesFit}
+use Rattle.stepped_cost.specs.Pieces.{keeps, last_fits}
 
 -- ---- what fits is not refused
 

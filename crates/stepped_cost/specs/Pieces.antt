@@ -1,21 +1,20 @@
 -- The stepped cost keeps the four laws, and its pieces answer its increments.
-use Rattle.std.specs.Prelude.{◌≡◌, ℕ, zero, suc, ◌+◌, ◌-◌, ◌<◌, ◌≤◌, min, Bool, true, false, cond, not, ◌&&◌, ltb, List, [], ◌∷◌, ◌++◌, length, get_or, take, drop, set, replicate, ℤ, pos, negsuc, ◌+ℤ◌, ◌-ℤ◌, ◌≤ℤ◌, ◌<ℤ◌, is_some, Some, None, Option, ◌==◌, int_lt, nat_le, nat_lt, slice_index_or, slice_set, refl}
+use Rattle.std.specs.Prelude.{◌≡◌, ℕ, zero, suc, ◌+◌, ◌-◌, ◌<◌, ◌≤◌, true, false, cond, not, ltb, List, [], ◌∷◌, ◌++◌, length, get_or, take, drop, set, replicate, ℤ, pos, negsuc, ◌+ℤ◌, ◌-ℤ◌, ◌≤ℤ◌, ◌<ℤ◌, is_some, Some, None, Option, ◌==◌, int_lt, nat_le, nat_lt, slice_index_or, slice_set, refl}
 use Rattle.std.proofs.Common.{sym, ◌∙◌, ap, add-one, arith}
-use Rattle.std.specs.Int.Signed.{le_z, le_z_yes}
 use Rattle.std.specs.List.{slice_get}
 use Rattle.std.specs.Option.{option_map}
-use Rattle.std.proofs.lemmas.List.{append_assoc, length-append, length-replicate, length-take, length-take-le, set_at, take_all, take_at, take_more, drop_all, drop_more}
+use Rattle.std.proofs.lemmas.List.{append_assoc, length-append, length-replicate, length-take-le, set_at, take_all, take_at, take_more, drop_all, drop_more}
 use Rattle.std.proofs.lemmas.Int.{ints}
 use Rattle.std.proofs.lemmas.Bool.Decides.{nat_tests}
-use Rattle.cost.specs.Meaning.{Meaning, empty_cost, natural, total, beyond, Lawful, last, increment_at, Rising, Between, AllBetween}
-use Rattle.cost.specs.Places.{first_place, or_else, kept_or}
+use Rattle.cost.specs.Meaning.{Meaning, empty_cost, natural, total, Lawful, last, increment_at, Rising, Between, AllBetween}
+use Rattle.cost.specs.Places.{first_place, kept_or}
 use Rattle.cost.specs.Limits.{outside, outside_each, load_limits, opening_limits, width_limits, increment_limits}
 use Rattle.stepped_cost.specs.Stepped.{spread, stepped_meaning, paired, too_long, falling, stepped_outside, stepped_refusal, widths_of, slopes_of, stepped_content, stepped_of, padded}
 use Rattle.cost.specs.declared.refusals.CostFault.{CostFault}
 use Rattle.cost.specs.declared.refusals.CostFault.TheVariants.{Pieces, Number, Long, Falls}
 use Rattle.stepped_cost.specs.declared.stepped.Stepped.{Stepped}
 use Rattle.cost.proofs.FirstPlace.{first_place_never}
-use Rattle.cost.proofs.Lists.{natural_is, nth_repeated, nth_past_repeated, total_more, increment_past, increment_under, increment_here, increment_empty, empty_lawful}
+use Rattle.cost.proofs.Lists.{natural_is, nth_repeated, nth_past_repeated, increment_under, increment_here, empty_lawful}
 use Rattle.cost.proofs.Refusing.{neither, none_below, passed, both, not_both, inside, all_inside, no_refusal, replaced}
 
 -- what the numbers of a stepped cost keep that are all within their limits

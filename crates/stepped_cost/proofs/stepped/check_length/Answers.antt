@@ -1,4 +1,4 @@
-use Rattle.std.proofs.Common.{◌≡◌, ℕ, true, false, length, Option, sym, ap, arith, below_more}
+use Rattle.std.proofs.Common.{◌≡◌, true, false, length, sym, ap, arith, below_more}
 use Rattle.std.specs.Option.{option_map}
 use Rattle.std.proofs.lemmas.Int.{ints, to_z-of_z}
 use Rattle.stepped_cost.specs.Stepped.{too_long}

@@ -1,4 +1,4 @@
-use Rattle.std.proofs.Common.{◌≡◌, ℕ, ◌<◌, false, take, pos, ◌+ℤ◌, ◌≤ℤ◌}
+use Rattle.std.proofs.Common.{◌≡◌, ℕ, ◌<◌, false, take, pos, ◌+ℤ◌}
 use Rattle.cost.specs.Meaning.{total, Between}
 use Rattle.stepped_cost.specs.Stepped.{too_long}
 use Rattle.stepped_cost.proofs.stepped.check_length.Given as goal

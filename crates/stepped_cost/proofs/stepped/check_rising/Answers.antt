@@ -1,5 +1,4 @@
-use Rattle.std.proofs.Common.{◌≡◌, ◌-◌, true, ◌&&◌, ltb, length, get_or, pos, sym, ap, arith, rules}
-use lib.Signed.{lt_z}
+use Rattle.std.proofs.Common.{◌≡◌, true, length, sym, ap, arith, rules}
 use Rattle.std.specs.Option.{option_map}
 use Rattle.stepped_cost.specs.Stepped.{falling}
 use Rattle.cost.specs.declared.refusals.CostFault.TheVariants.{Falls}

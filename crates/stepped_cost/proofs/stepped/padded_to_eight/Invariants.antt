@@ -1,4 +1,4 @@
-use Rattle.std.proofs.Common.{◌≡◌, ℕ, ◌-◌, ◌<◌, ◌++◌, length, take, replicate, pos}
+use Rattle.std.proofs.Common.{◌≡◌, ◌-◌, ◌++◌, take, replicate, pos}
 use Rattle.stepped_cost.proofs.stepped.padded_to_eight.Given as goal
 
 abbrev pub invariant-loop-k : goal.invariant-loop-k

@@ -1,5 +1,4 @@
-use Rattle.std.proofs.Common.{◌≡◌, None, sym, w64, SFits, rules}
-use Rattle.std.proofs.lemmas.Int.{to_z-of_z}
+use Rattle.std.proofs.Common.{◌≡◌, None, rules}
 use Rattle.stepped_cost.specs.Stepped.{stepped_refusal}
 use Rattle.stepped_cost.specs.Pieces.{made_means}
 use Rattle.stepped_cost.proofs.stepped.Stepped.new.Goals as goal

@@ -1,4 +1,4 @@
-use Rattle.std.proofs.Common.{◌≡◌, ℕ, ◌-◌, length, take, sym, ap, ◌∙◌, arith, rules}
+use Rattle.std.proofs.Common.{◌≡◌, length, rules}
 use Rattle.cost.proofs.Lists.{take_within}
 use Rattle.stepped_cost.proofs.stepped.Stepped.pieces.Goals as goal
 

@@ -5,10 +5,10 @@ use Rattle.stepped_cost.specs.Pieces.{made_keeps}
 use Rattle.stepped_cost.specs.StepRowsLemmas.{honest, kept_row, put_together}
 use Rattle.stepped_cost.proofs.stepped.SteppedWritten.row.Goals as goal
 
-pub returns-then-is-made : goal.returns-then-is-made
-returns-then-is-made c =
+pub returns-then-is_made : goal.returns-then-is_made
+returns-then-is_made c =
     let self = c.args.self.now in
-    let made = c.if-is-made.ensures in
+    let made = c.if-is_made.ensures in
     let own = kept_row self made in
     let first : SFits w64 self.first = search rules in
     let opening : SFits w64 self.opening = search rules in
@@ -17,5 +17,5 @@ returns-then-is-made c =
     let long = ap length c.pieces.ensures.widths in
     let count : to_z w64 (length c.pieces.result.0.now) ≡ pos (length (widths_of self)) = omega (arith, ints) in
     let front = simp to_z-of_z at c.extend.ensures in
-    let row = put_together _ _ _ _ _ _ _ _ _ _ _ _ c.empty-row.ensures front c.extend-then-is-made.ensures c.extend-then-is-made-2.ensures c.pieces.ensures.widths c.pieces.ensures.slopes count kept.few (omega (arith, kept.pairs)) in
+    let row = put_together _ _ _ _ _ _ _ _ _ _ _ _ c.empty-row.ensures front c.extend-then-is_made.ensures c.extend-then-is_made-2.ensures c.pieces.ensures.widths c.pieces.ensures.slopes count kept.few (omega (arith, kept.pairs)) in
     record { row = row ∙ sym own; means = (honest self).means }
