@@ -1,14 +1,12 @@
 -- The quadratic cost keeps the four laws, and answers its increments.
-use Rattle.std.specs.Prelude.{◌≡◌, ℕ, suc, ◌+◌, ◌-◌, ◌*◌, ◌<◌, ◌≤◌, min, Bool, true, false, cond, not, List, [], ◌∷◌, map, length, ℤ, pos, negsuc, ◌+ℤ◌, ◌-ℤ◌, ◌*ℤ◌, ◌≤ℤ◌, ◌<ℤ◌, is_some, IfOk, Some, None, Option, Result, int_le, int_lt, slice_index_or, refl}
+use Rattle.std.specs.Prelude.{◌≡◌, ℕ, ◌+◌, ◌-◌, ◌*◌, ◌<◌, ◌≤◌, true, false, cond, not, List, [], ◌∷◌, length, ℤ, pos, negsuc, ◌+ℤ◌, ◌-ℤ◌, ◌*ℤ◌, ◌≤ℤ◌, ◌<ℤ◌, is_some, IfOk, Some, None, Option, Result, int_le, int_lt, slice_index_or, refl}
 use Rattle.std.proofs.Common.{sym, ◌∙◌, ap, arith, mul-le-mul_left, mul-le-mul_right}
 use Rattle.std.specs.Int.Signed.{le_z_yes}
-use Rattle.std.specs.List.{slice_get, range_with_len}
 use Rattle.std.specs.Option.{option_map}
 use Rattle.std.specs.Result.{result_err}
 use Rattle.std.proofs.lemmas.List.FromFn.{length-map-range_with_len, get_or-map-range_with_len}
-use Rattle.std.proofs.lemmas.Option.{slice_get_past}
 use Rattle.std.proofs.lemmas.Int.{ints}
-use Rattle.cost.specs.Meaning.{Meaning, empty_cost, natural, Lawful, last, increment_at, Rising, Between}
+use Rattle.cost.specs.Meaning.{Meaning, empty_cost, natural, Lawful, last, increment_at, Between}
 use Rattle.cost.specs.Places.{or_else, kept_or, unless}
 use Rattle.cost.specs.Limits.{outside, load_limits, increment_limits, square_limits}
 use Rattle.quadratic_cost.specs.Quadratic.{quadratic_increment, quadratic_outside, quadratic_meaning, quadratic_refusal, quadratic_content, steep, quadratic_row, quadratic_row_refusal, quadratic_row_meaning}
@@ -16,7 +14,7 @@ use Rattle.cost.specs.declared.numbers.NumberFault.{NumberFault}
 use Rattle.cost.specs.declared.refusals.CostFault.{CostFault}
 use Rattle.quadratic_cost.specs.declared.quadratic.Quadratic.{Quadratic}
 use Rattle.cost.specs.declared.refusals.CostFault.TheVariants.{Number, Steep}
-use Rattle.cost.proofs.Lists.{natural_is, nth_counted, increment_past, increment_under, increment_here, increment_empty, empty_lawful}
+use Rattle.cost.proofs.Lists.{natural_is, nth_counted, increment_past, increment_under, increment_here, empty_lawful}
 use Rattle.cost.proofs.Brief.{Brief, brief_none, brief_more}
 use Rattle.cost.proofs.Refusing.{neither, none_below, not_met, not_both, inside, no_refusal, replaced, answered}
 
@@ -100,7 +98,7 @@ pub made_means : (q : Quadratic) → quadratic_refusal q.a q.b q.c ≡ None → 
 made_means q e = ap (λ (o : Option CostFault). kept_or empty_cost o (quadratic_meaning q.a q.b q.c)) e
 
 -- what a content answers that its constructor would make
-module _ (q : Quadratic) (IfOk : true ≡ not (is_some (quadratic_refusal q.a q.b q.c))) where
+module _ (q : Quadratic) (made : true ≡ not (is_some (quadratic_refusal q.a q.b q.c))) where
   none : quadratic_refusal q.a q.b q.c ≡ None
   none = no_refusal (quadratic_refusal q.a q.b q.c) made
 

@@ -1,18 +1,18 @@
-use Rattle.std.proofs.Common.{◌≡◌, pos, ◌+ℤ◌, ◌*ℤ◌, arith, w64, SFits}
+use Rattle.std.proofs.Common.{pos, ◌+ℤ◌, ◌*ℤ◌, arith, w64, SFits}
 use Rattle.std.proofs.lemmas.Int.{ints, to_z-of_z}
 use Rattle.quadratic_cost.specs.Squares.{product_limit}
 use Rattle.quadratic_cost.proofs.quadratic.increment.Goals as goal
 
-pub overflow-mul-result-2 : goal.overflow-mul-result-2
-overflow-mul-result-2 c =
+pub overflow_mul-result-2 : goal.overflow_mul-result-2
+overflow_mul-result-2 c =
     let b = c.ranges.b in
     let x = c.ranges.x in
     let twice : SFits w64 (pos 2 *ℤ c.args.b) = omega (arith, ints, c.requires.1.0, c.requires.1.1) in
     let limit = product_limit c.args.b c.args.x c.requires.1 c.requires.2 in
     simp to_z-of_z (omega (arith, ints, limit))
 
-pub overflow-add-result : goal.overflow-add-result
-overflow-add-result c =
+pub overflow_add-result : goal.overflow_add-result
+overflow_add-result c =
     let a = c.ranges.a in
     let b = c.ranges.b in
     let x = c.ranges.x in

@@ -1,6 +1,5 @@
 use Rattle.std.proofs.Common.{is_ok, ap, ◌∙◌, w64, SFits, rules}
 use Rattle.std.proofs.lemmas.Int.{to_z-of_z}
-use Rattle.quadratic_cost.specs.Quadratic.{quadratic_refusal}
 use Rattle.cost.proofs.Refusing.{accepts}
 use Rattle.quadratic_cost.proofs.quadratic.Quadratic.is_made.Goals as goal
 
@@ -10,4 +9,4 @@ returns c =
     let b : SFits w64 c.args.self.b = search rules in
     let c' : SFits w64 c.args.self.c = search rules in
     let answer = simp to_z-of_z at c.new.ensures.answer in
-    c.is-ok.ensures.value ∙ ap is_ok answer ∙ accepts _ _
+    c.is_ok.ensures.value ∙ ap is_ok answer ∙ accepts _ _
