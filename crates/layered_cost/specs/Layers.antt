@@ -1,5 +1,5 @@
 -- The two costs that stand over another cost.
-use Rattle.std.specs.Prelude.{ℕ, ◌-◌, map, take, ℤ, negsuc}
+use Rattle.std.specs.Prelude.{◌-◌, map, take, ℤ, negsuc}
 use Rattle.std.specs.Int.{int_min, int_max}
 use Rattle.cost.specs.Meaning.{Meaning, natural}
 

@@ -1,13 +1,13 @@
 -- What a cap and a ceiling keep of the cost below them, for any cost.
-use Rattle.std.specs.Prelude.{◌≡◌, ℕ, suc, ◌+◌, ◌-◌, ◌<◌, ◌≤◌, min, Bool, true, false, cond, List, map, length, ℤ, pos, negsuc, ◌≤ℤ◌, ◌<ℤ◌, Some, None, Option, int_le, slice_index_or, refl}
-use Rattle.std.proofs.Common.{sym, ◌∙◌, ap, arith}
+use Rattle.std.specs.Prelude.{◌≡◌, ℕ, ◌+◌, ◌-◌, ◌<◌, min, Bool, true, false, cond, length, ℤ, pos, negsuc, ◌≤ℤ◌, ◌<ℤ◌, None, int_le, slice_index_or, refl}
+use Rattle.std.proofs.Common.{ap, arith}
 use Rattle.std.specs.List.{slice_get}
 use Rattle.std.specs.Int.{int_min, int_max}
 use Rattle.std.specs.Option.{option_map}
 use Rattle.std.proofs.lemmas.List.{length-take, length-map, get_or-take, get_or-map}
 use Rattle.std.proofs.lemmas.Option.{slice_get_past}
 use Rattle.std.proofs.lemmas.Int.{ints, clamps}
-use Rattle.cost.specs.Meaning.{Meaning, Lawful, last, natural, beyond, increment_at, Rising, Between}
+use Rattle.cost.specs.Meaning.{Meaning, Lawful, last, natural, beyond, increment_at}
 use Rattle.layered_cost.specs.Layers.{capped, ceiled}
 use Rattle.cost.proofs.Lists.{natural_is, nth_take, nth_map}
 

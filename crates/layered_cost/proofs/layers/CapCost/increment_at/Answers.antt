@@ -1,4 +1,4 @@
-use Rattle.std.proofs.Common.{sym, ◌∙◌, arith, rules}
+use Rattle.std.proofs.Common.{sym, arith, rules}
 use Rattle.std.proofs.lemmas.Int.{ints}
 use Rattle.layered_cost.specs.Over.{capped_increment, capped_none}
 use Rattle.layered_cost.proofs.layers.CapCost.increment_at.Goals as goal
