@@ -3,8 +3,8 @@ use Rattle.std.proofs.Common.{pos, ◌+ℤ◌, ◌-ℤ◌, arith, w64, SFits}
 use Rattle.std.proofs.lemmas.Int.{ints, to_z-of_z}
 use Rattle.random.proofs.Random.between.Goals as goal
 
-pub overflow-add-result : goal.overflow-add-result
-overflow-add-result c = let low = c.ranges.low in let high = c.ranges.high in omega (arith, ints, c.below.ensures.limit)
+pub overflow_add-result : goal.overflow_add-result
+overflow_add-result c = let low = c.ranges.low in let high = c.ranges.high in omega (arith, ints, c.below.ensures.limit)
 
 pub returns : goal.returns
 returns c =
