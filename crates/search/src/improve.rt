@@ -12,7 +12,7 @@ ghost use Rattle.search.specs.Prices.{raised, Modest, AllSlack};
 use crate::narrow::{hold, narrow};
 use cost::costs::Cost;
 use flow::meet::meet;
-use flow::near::Near;
+use flow::near::{Near, near_of};
 use flow::reach::{BLANK, Label};
 use network::records::{Arc, Node};
 
@@ -74,7 +74,6 @@ pub(crate) fn improve<C: Cost>(
     nodes: &[Node],
     arcs: &[Arc],
     costs: &[C],
-    near: &Near,
     loads: &mut [i64],
     prices: &mut [i64],
 )
@@ -82,7 +81,6 @@ pub(crate) fn improve<C: Cost>(
     requires costed { length costs.now ≡ length arcs.now }
     requires loaded { length arcs.now ≤ length loads.old }
     requires priced { length nodes.now ≤ length prices.old }
-    requires near { Nearby (length arcs.now) near.now }
     requires balanced { sum (length nodes.now) (net_of nodes.now arcs.now (map C.Cost.meaning costs.now)).supply ≡ pos 0 }
     requires meets { Meets (net_of nodes.now arcs.now (map C.Cost.meaning costs.now)) (numbers loads.old) }
     requires start { (v : ℕ) → v < length nodes.now → numbers prices.old v ≡ pos 0 }
@@ -90,6 +88,7 @@ pub(crate) fn improve<C: Cost>(
     ensures slack { AllSlack (net_of nodes.now arcs.now (map C.Cost.meaning costs.now)) (numbers prices.new) (numbers loads.new) }
     ensures modest { Modest (length nodes.now) prices.new }
 {
+    let near = near_of(nodes, arcs);
     let mut lows = [0; 256];
     let mut highs = [0; 256];
     let mut labels = [BLANK; 64];
@@ -103,7 +102,7 @@ pub(crate) fn improve<C: Cost>(
             prices,
             step,
             anew,
-            near,
+            &near,
             &mut lows,
             &mut highs,
             loads,

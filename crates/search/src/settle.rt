@@ -5,7 +5,6 @@ ghost use Rattle.network.specs.Sums.{sum};
 ghost use Rattle.network.specs.Network.{Meets, charge, floor, OverFull};
 ghost use Rattle.network.specs.Records.{net_of, numbers, Sound};
 ghost use Rattle.flow.specs.Labels.{reached_in};
-ghost use Rattle.flow.specs.Near.{Nearby};
 ghost use Rattle.search.specs.Settled.{arc_at, node_at, SameNodes, SameArcs, Settled, Barred};
 
 use crate::draw::draw_in;
@@ -13,7 +12,7 @@ use crate::improve::improve;
 use crate::narrow::{hold, widen};
 use cost::costs::Cost;
 use flow::meet::meet;
-use flow::near::{Near, near_of};
+use flow::near::near_of;
 use flow::reach::{BLANK, Label};
 use network::records::{Arc, Node};
 
@@ -22,13 +21,11 @@ fn route<C: Cost>(
     nodes: &[Node],
     arcs: &[Arc],
     costs: &[C],
-    near: &Near,
     loads: &mut [i64],
     labels: &mut [Label],
 ) -> bool
     requires sound { Sound nodes.now arcs.now }
     requires costed { length costs.now ≡ length arcs.now }
-    requires near { Nearby (length arcs.now) near.now }
     requires balanced { sum (length nodes.now) (net_of nodes.now arcs.now (map C.Cost.meaning costs.now)).supply ≡ pos 0 }
     requires loaded { length arcs.now ≤ length loads.old }
     requires long { length nodes.now ≤ length labels.old }
@@ -39,7 +36,8 @@ fn route<C: Cost>(
     let mut highs = [0; 256];
     widen(costs, &mut lows, &mut highs);
     hold(arcs, &lows, &highs, loads);
-    meet(nodes, arcs, &lows, &highs, near, loads, labels)
+    let near = near_of(nodes, arcs);
+    meet(nodes, arcs, &lows, &highs, &near, loads, labels)
 }
 
 // A cheapest routing, with prices whose floor equals its charge; or false, and the nodes that are labelled as reached are over full.
@@ -63,12 +61,11 @@ fn solve<C: Cost>(
     ensures limits { result ≡ true → (v : ℕ) → v < length nodes.now → Between (pos 0) (pos 64000000) (numbers prices.new v) }
     ensures barred { result ≡ false → OverFull (net_of nodes.now arcs.now (map C.Cost.meaning costs.now)) (reached_in labels.new) }
 {
-    let near = near_of(nodes, arcs);
-    if !route(nodes, arcs, costs, &near, loads, labels) {
+    if !route(nodes, arcs, costs, loads, labels) {
         return false;
     }
     let mut apart = [0; 64];
-    improve(nodes, arcs, costs, &near, loads, &mut apart);
+    improve(nodes, arcs, costs, loads, &mut apart);
     draw_in(nodes, &apart, prices);
     true
 }

@@ -16,7 +16,6 @@ improve-requires g c = record {
   costed = c.requires.costed;
   loaded = omega arith;
   priced = c.requires.sound.node_limit;
-  near = c.near_of-near.ensures;
   balanced = c.requires.balanced;
   meets = c.route.ensures.meets (search rules);
   start = λ v h. get_or-replicate 64 v (pos 0) (pos 0) (omega (arith, c.requires.sound.node_limit));
