@@ -1,19 +1,35 @@
-// The program `route`: reads the record of a network from standard input, and prints a cheapest routing or why there is none.
+// The program `route`: drafts the book of an example, prices its tariff, and says which of three routings is cheapest.
 #![tactic(auto)]
 
-mod answers;
-mod input;
-#[cfg(test)]
-mod tests;
+mod example;
+mod tariff;
 
-use answers::answer;
-use input::{ROOM, read_input};
+use anyhow::anyhow;
+use example::{draft, tariffs};
+use sheet::sheets::Sheet;
+use tariff::{print_charge, print_floor, print_table};
 
 fn run(rt: &HostRuntime) -> anyhow::Result<()> {
-    let mut buffer = [0u8; ROOM];
-    let length = read_input(rt, &mut buffer)?;
-    let text = answer(rt.alloc(), &buffer[0..length])?;
-    rt.print(text.as_str())?;
+    let mut sheet = Sheet::blank();
+    if draft(&mut sheet).is_err() {
+        return Err(anyhow!("the draft is refused"));
+    }
+    let Ok(costs) = tariffs() else {
+        return Err(anyhow!("a cost is refused"));
+    };
+    for (a, cost) in costs.iter().enumerate() {
+        println!(rt; "arc {}", a + 1)?;
+        print_table(rt, cost)?;
+    }
+    for loads in [[2, 2, 2], [4, 4, 0], [0, 0, 4]].iter() {
+        print_charge(rt, &sheet, &costs, loads)?;
+    }
+    for prices in [[3, 2, 0], [0, 0, 0]].iter() {
+        print_floor(rt, &sheet, &costs, prices)?;
+    }
+    if let Ok(true) = sheet.is_cheapest(&costs, &[2, 2, 2], &[3, 2, 0]) {
+        println!(rt; "the charge of 2 2 2 equals the floor of 3 2 0, so 2 2 2 is cheapest")?;
+    }
     Ok(())
 }
 
