@@ -7,7 +7,8 @@ ghost use Rattle.flow.specs.Near.{Nearby};
 ghost use Rattle.flow.specs.Labels.{reached_in};
 ghost use Rattle.flow.specs.Surpluses.{Tells, excess};
 
-use crate::near::Near;
+use crate::explore::explore;
+use crate::near::{Near, near_of};
 use crate::push::push;
 use crate::reach::{Label, first_over, label_sources, reach};
 use crate::surpluses::{surpluses_of, transfer};
@@ -38,7 +39,8 @@ fn relieve(
     ensures barred { result ≡ false → OverFullWithin (net_of nodes.now arcs.now []) (numbers lows.now) (numbers highs.now) (reached_in labels.new) }
 {
     label_sources(nodes, surpluses, labels);
-    let Some(target) = reach(nodes, arcs, lows, highs, loads, surpluses, near, labels) else {
+    explore(nodes, arcs, lows, highs, loads, surpluses, near, labels);
+    let Some(target) = reach(nodes, arcs, lows, highs, loads, surpluses, labels) else {
         return false;
     };
     let by = labels[target].width.min(-surpluses[target]);
@@ -53,18 +55,17 @@ pub fn meet(
     arcs: &[Arc],
     lows: &[i64],
     highs: &[i64],
-    near: &Near,
     loads: &mut [i64],
     labels: &mut [Label],
 ) -> bool
     requires ready { Ready nodes.now arcs.now lows.now highs.now loads.old }
-    requires near { Nearby (length arcs.now) near.now }
     requires long { length nodes.now ≤ length labels.old }
     requires balanced { sum (length nodes.now) (net_of nodes.now arcs.now []).supply ≡ pos 0 }
     ensures ready { Ready nodes.now arcs.now lows.now highs.now loads.new }
     ensures met { result ≡ true → Met (net_of nodes.now arcs.now []) (numbers lows.now) (numbers highs.now) (numbers loads.new) }
     ensures barred { result ≡ false → OverFullWithin (net_of nodes.now arcs.now []) (numbers lows.now) (numbers highs.now) (reached_in labels.new) }
 {
+    let near = near_of(nodes, arcs);
     let mut surpluses = [0; 64];
     surpluses_of(nodes, arcs, loads, &mut surpluses);
     while let Some(over) = first_over(nodes, &surpluses) {
@@ -75,7 +76,7 @@ pub fn meet(
             highs,
             loads,
             &mut surpluses,
-            near,
+            &near,
             labels,
             over,
         ) {

@@ -3,11 +3,8 @@ ghost use Rattle.std.specs.Prelude.{◌≡◌, ℕ, ◌+◌, ◌<◌, ◌≤◌,
 ghost use Rattle.network.specs.Network.{surplus};
 ghost use Rattle.network.specs.Records.{net_of, numbers, Sound};
 ghost use Rattle.flow.specs.Within.{Ready, Held};
-ghost use Rattle.flow.specs.Near.{Nearby};
 ghost use Rattle.flow.specs.Labels.{label_of, reached_in, unreached, source, extends, onward, Labelled, ClosedIn};
 
-use crate::explore::explore;
-use crate::near::Near;
 use network::records::{Arc, Node};
 
 // How a node was reached: over which arc, in which direction, from which node, after how many steps, and how much can come to it.
@@ -139,17 +136,14 @@ pub(crate) fn reach(
     highs: &[i64],
     loads: &[i64],
     surpluses: &[i64],
-    near: &Near,
     labels: &mut [Label],
 ) -> Option<usize>
     requires ready { Ready nodes.now arcs.now lows.now highs.now loads.now }
     requires told { length nodes.now ≤ length surpluses.now }
-    requires near { Nearby (length arcs.now) near.now }
     requires labels { Labelled (net_of nodes.now arcs.now []) (numbers lows.now) (numbers highs.now) (numbers loads.now) labels.old }
     ensures labelled { Labelled (net_of nodes.now arcs.now []) (numbers lows.now) (numbers highs.now) (numbers loads.now) labels.new }
     ensures found { MatchOption result (((a : ℕ) → a < length arcs.now → ClosedIn (net_of nodes.now arcs.now []) (numbers lows.now) (numbers highs.now) (numbers loads.now) labels.new a) × ((v : ℕ) → v < length nodes.now → reached_in labels.new v ≡ true → pos 0 ≤ℤ numbers surpluses.now v)) (λ v. (v < length nodes.now) × (reached_in labels.new v ≡ true) × (numbers surpluses.now v <ℤ pos 0)) }
 {
-    explore(nodes, arcs, lows, highs, loads, surpluses, near, labels);
     loop {
         if let Some(node) = first_short(nodes, surpluses, labels) {
             return Some(node);

@@ -29,10 +29,10 @@ module _ (R : ℕ → ℤ → ℤ → Type 0) (Q : ℕ → Type 0) (n a : ℕ) w
   pub one_renewed : (xs ys xs' ys' : List ℤ) → ((k : ℕ) → k < n → (k < a) ⊎ Q k → R k (numbers xs k) (numbers ys k)) → R a (numbers xs' a) (numbers ys' a)
       → ((k : ℕ) → (k ≡ a → ⊥) → numbers xs' k ≡ numbers xs k) → ((k : ℕ) → (k ≡ a → ⊥) → numbers ys' k ≡ numbers ys k)
       → (k : ℕ) → k < n → (k < a + 1) ⊎ Q k → R k (numbers xs' k) (numbers ys' k)
-  one_renewed xs ys xs' ys' before here xs-same ys-same k h which =
+  one_renewed xs ys xs' ys' before here xs_same ys_same k h which =
       elim (cases_eq k a) [
         | inl at ↦ subst (λ j. R j (numbers xs' j) (numbers ys' j)) (sym at) here
-        | inr away ↦ subst (λ x. R k x (numbers ys' k)) (sym (xs-same k away)) (subst (R k (numbers xs k)) (sym (ys-same k away)) (before k h (sooner k away which)))
+        | inr away ↦ subst (λ x. R k x (numbers ys' k)) (sym (xs_same k away)) (subst (R k (numbers xs k)) (sym (ys_same k away)) (before k h (sooner k away which)))
       ]
 
   -- two lists of which nothing is written, since what is wanted at the index holds already

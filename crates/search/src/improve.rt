@@ -5,14 +5,12 @@ ghost use Rattle.network.specs.Sums.{sum};
 ghost use Rattle.network.specs.Network.{Meets, floor};
 ghost use Rattle.network.specs.Records.{net_of, numbers, Sound};
 ghost use Rattle.flow.specs.Labels.{reached_in};
-ghost use Rattle.flow.specs.Near.{Nearby};
 ghost use Rattle.search.specs.Turns.{Narrowed, NarrowedBeside};
 ghost use Rattle.search.specs.Prices.{raised, Modest, AllSlack};
 
-use crate::narrow::{hold, narrow};
+use crate::narrow::{hold, narrow_due};
 use cost::costs::Cost;
 use flow::meet::meet;
-use flow::near::{Near, near_of};
 use flow::reach::{BLANK, Label};
 use network::records::{Arc, Node};
 
@@ -40,7 +38,6 @@ fn attempt<C: Cost>(
     prices: &[i64],
     step: i64,
     anew: bool,
-    near: &Near,
     lows: &mut [i64],
     highs: &mut [i64],
     loads: &mut [i64],
@@ -55,7 +52,6 @@ fn attempt<C: Cost>(
     requires priced { length nodes.now ≤ length prices.now }
     requires modest { Modest (length nodes.now) prices.now }
     requires step { Between (pos 1) (pos 1048576) step }
-    requires near { Nearby (length arcs.now) near.now }
     requires kept { anew ≡ false → NarrowedBeside (net_of nodes.now arcs.now (map C.Cost.meaning costs.now)) (numbers prices.now) step (reached_in labels.old) (numbers lows.old) (numbers highs.old) }
     requires balanced { sum (length nodes.now) (net_of nodes.now arcs.now (map C.Cost.meaning costs.now)).supply ≡ pos 0 }
     ensures narrowed { Narrowed (net_of nodes.now arcs.now (map C.Cost.meaning costs.now)) (numbers prices.now) step (numbers lows.new) (numbers highs.new) }
@@ -63,9 +59,9 @@ fn attempt<C: Cost>(
     ensures slack { result ≡ true → step ≡ pos 1 → AllSlack (net_of nodes.now arcs.now (map C.Cost.meaning costs.now)) (numbers prices.now) (numbers loads.new) }
     ensures rises { result ≡ false → (floor (net_of nodes.now arcs.now (map C.Cost.meaning costs.now)) (numbers prices.now) +ℤ step) ≤ℤ floor (net_of nodes.now arcs.now (map C.Cost.meaning costs.now)) (raised (numbers prices.now) (reached_in labels.new) step) }
 {
-    narrow(nodes, arcs, costs, prices, step, anew, labels, lows, highs);
+    narrow_due(nodes, arcs, costs, prices, step, anew, labels, lows, highs);
     hold(arcs, lows, highs, loads);
-    meet(nodes, arcs, lows, highs, near, loads, labels)
+    meet(nodes, arcs, lows, highs, loads, labels)
 }
 
 // Changes the loads into those of a cheapest routing, and the prices into those at which each load is slack. The prices of a set of
@@ -88,7 +84,6 @@ pub(crate) fn improve<C: Cost>(
     ensures slack { AllSlack (net_of nodes.now arcs.now (map C.Cost.meaning costs.now)) (numbers prices.new) (numbers loads.new) }
     ensures modest { Modest (length nodes.now) prices.new }
 {
-    let near = near_of(nodes, arcs);
     let mut lows = [0; 256];
     let mut highs = [0; 256];
     let mut labels = [BLANK; 64];
@@ -102,7 +97,6 @@ pub(crate) fn improve<C: Cost>(
             prices,
             step,
             anew,
-            &near,
             &mut lows,
             &mut highs,
             loads,

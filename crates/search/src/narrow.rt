@@ -106,19 +106,71 @@ fn narrow_at<C: Cost>(
     highs[place] = turn_from(cost, tension + step, highs[place]);
 }
 
-// Whether an arc is to be narrowed: each one is anew, and otherwise those with one end among the nodes that are labelled as reached.
-fn is_due(arc: &Arc, anew: bool, labels: &[Label]) -> bool
-    requires tail { arc.now.tail < length labels.now }
-    requires head { arc.now.head < length labels.now }
-    ensures anew { result ≡ false → anew ≡ false }
-    ensures alike { result ≡ false → reached_in labels.now arc.now.tail ≡ reached_in labels.now arc.now.head }
+// The low and the high of each arc: its loads that are slack within a step of its tension.
+pub(crate) fn narrow<C: Cost>(
+    nodes: &[Node],
+    arcs: &[Arc],
+    costs: &[C],
+    prices: &[i64],
+    step: i64,
+    lows: &mut [i64],
+    highs: &mut [i64],
+)
+    requires sound { Sound nodes.now arcs.now }
+    requires costed { length costs.now ≡ length arcs.now }
+    requires priced { length nodes.now ≤ length prices.now }
+    requires limits { (v : ℕ) → v < length nodes.now → Between (pos 0) (pos 1000000000000000) (numbers prices.now v) }
+    requires step { Between (pos 1) (pos 1048576) step }
+    requires lows_long { length arcs.now ≤ length lows.old }
+    requires highs_long { length arcs.now ≤ length highs.old }
+    ensures { Narrowed (net_of nodes.now arcs.now (map C.Cost.meaning costs.now)) (numbers prices.now) step (numbers lows.new) (numbers highs.new) }
 {
-    anew | (labels[arc.tail].reached != labels[arc.head].reached)
+    for (a, cost) in costs.iter().enumerate() {
+        narrow_at(&arcs[a], cost, prices, step, a, lows, highs);
+    }
 }
 
-// The low and the high of each arc: its loads that are slack within a step of its tension. Unless they are wanted anew, those of the
-// arcs with both ends among the nodes that are labelled as reached, or with none, are there already.
-pub(crate) fn narrow<C: Cost>(
+// Whether one end of an arc is among the nodes that are labelled as reached, and the other is not.
+fn crosses(arc: &Arc, labels: &[Label]) -> bool
+    requires tail { arc.now.tail < length labels.now }
+    requires head { arc.now.head < length labels.now }
+    ensures { result ≡ false → reached_in labels.now arc.now.tail ≡ reached_in labels.now arc.now.head }
+{
+    labels[arc.tail].reached != labels[arc.head].reached
+}
+
+// The same, where the lows and highs of the arcs with both ends among the nodes that are labelled as reached, or with none, are there
+// already.
+fn narrow_across<C: Cost>(
+    nodes: &[Node],
+    arcs: &[Arc],
+    costs: &[C],
+    prices: &[i64],
+    step: i64,
+    labels: &[Label],
+    lows: &mut [i64],
+    highs: &mut [i64],
+)
+    requires sound { Sound nodes.now arcs.now }
+    requires costed { length costs.now ≡ length arcs.now }
+    requires priced { length nodes.now ≤ length prices.now }
+    requires limits { (v : ℕ) → v < length nodes.now → Between (pos 0) (pos 1000000000000000) (numbers prices.now v) }
+    requires step { Between (pos 1) (pos 1048576) step }
+    requires long { length nodes.now ≤ length labels.now }
+    requires lows_long { length arcs.now ≤ length lows.old }
+    requires highs_long { length arcs.now ≤ length highs.old }
+    requires kept { NarrowedBeside (net_of nodes.now arcs.now (map C.Cost.meaning costs.now)) (numbers prices.now) step (reached_in labels.now) (numbers lows.old) (numbers highs.old) }
+    ensures { Narrowed (net_of nodes.now arcs.now (map C.Cost.meaning costs.now)) (numbers prices.now) step (numbers lows.new) (numbers highs.new) }
+{
+    for (a, cost) in costs.iter().enumerate() {
+        if crosses(&arcs[a], labels) {
+            narrow_at(&arcs[a], cost, prices, step, a, lows, highs);
+        }
+    }
+}
+
+// The low and the high of each arc, anew or from those that are there already.
+pub(crate) fn narrow_due<C: Cost>(
     nodes: &[Node],
     arcs: &[Arc],
     costs: &[C],
@@ -140,10 +192,10 @@ pub(crate) fn narrow<C: Cost>(
     requires kept { anew ≡ false → NarrowedBeside (net_of nodes.now arcs.now (map C.Cost.meaning costs.now)) (numbers prices.now) step (reached_in labels.now) (numbers lows.old) (numbers highs.old) }
     ensures { Narrowed (net_of nodes.now arcs.now (map C.Cost.meaning costs.now)) (numbers prices.now) step (numbers lows.new) (numbers highs.new) }
 {
-    for (a, cost) in costs.iter().enumerate() {
-        if is_due(&arcs[a], anew, labels) {
-            narrow_at(&arcs[a], cost, prices, step, a, lows, highs);
-        }
+    if anew {
+        narrow(nodes, arcs, costs, prices, step, lows, highs);
+    } else {
+        narrow_across(nodes, arcs, costs, prices, step, labels, lows, highs);
     }
 }
 

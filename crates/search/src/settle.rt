@@ -12,7 +12,6 @@ use crate::improve::improve;
 use crate::narrow::{hold, widen};
 use cost::costs::Cost;
 use flow::meet::meet;
-use flow::near::near_of;
 use flow::reach::{BLANK, Label};
 use network::records::{Arc, Node};
 
@@ -36,8 +35,7 @@ fn route<C: Cost>(
     let mut highs = [0; 256];
     widen(costs, &mut lows, &mut highs);
     hold(arcs, &lows, &highs, loads);
-    let near = near_of(nodes, arcs);
-    meet(nodes, arcs, &lows, &highs, &near, loads, labels)
+    meet(nodes, arcs, &lows, &highs, loads, labels)
 }
 
 // A cheapest routing, with prices whose floor equals its charge; or false, and the nodes that are labelled as reached are over full.

@@ -7,14 +7,17 @@ use Rattle.flow.specs.Labels.{label_of}
 use Rattle.flow.proofs.Relief.{labelled_sources, bars, amount, surplus_limit, relieved}
 use Rattle.flow.proofs.meet.relieve.Goals as goal
 
-pub reach-requires : goal.reach-requires
-reach-requires c = record {
+pub explore-requires : goal.explore-requires
+explore-requires c = record {
   ready = c.requires.ready;
   told = c.requires.tells.long;
   near = c.requires.near;
   labels = labelled_sources c.args.nodes.now c.args.arcs.now c.args.lows.now c.args.highs.now c.args.loads.now c.args.surpluses.now c.requires.ready c.requires.tells
       c.label_sources.new.labels (omega arith) c.label_sources.ensures;
 }
+
+pub reach-requires : goal.reach-requires
+reach-requires c = record { ready = c.requires.ready; told = c.requires.tells.long; labels = c.explore.ensures }
 
 pub returns-in_default : goal.returns-in_default
 returns-in_default c = record {

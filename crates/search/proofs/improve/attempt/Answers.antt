@@ -13,19 +13,18 @@ hold-requires g c =
     let costs = map g.C.Cost.meaning c.args.costs.now in
     let lawful = λ (a : ℕ) (h : a < length c.args.arcs.now). each_cost g.C.Cost.meaning Lawful g.met.C.Cost.lawful c.args.costs.now a (omega arith) in
     let given_step = c.ranges.step in
-    let narrowed = simp to_z-of_z at c.narrow.ensures in
-    record { lows_long = omega arith; highs_long = omega arith; loads_long = c.requires.loaded; order = order c.args.nodes.now c.args.arcs.now costs lawful c.args.prices.now c.args.step c.requires.step.0 c.narrow.new.lows c.narrow.new.highs narrowed }
+    let narrowed = simp to_z-of_z at c.narrow_due.ensures in
+    record { lows_long = omega arith; highs_long = omega arith; loads_long = c.requires.loaded; order = order c.args.nodes.now c.args.arcs.now costs lawful c.args.prices.now c.args.step c.requires.step.0 c.narrow_due.new.lows c.narrow_due.new.highs narrowed }
 
 pub meet-requires : goal.meet-requires
 meet-requires g c =
     let costs = map g.C.Cost.meaning c.args.costs.now in
     let lawful = λ (a : ℕ) (h : a < length c.args.arcs.now). each_cost g.C.Cost.meaning Lawful g.met.C.Cost.lawful c.args.costs.now a (omega arith) in
     let given_step = c.ranges.step in
-    let narrowed = simp to_z-of_z at c.narrow.ensures in
+    let narrowed = simp to_z-of_z at c.narrow_due.ensures in
     record {
-      ready = ready_within c.args.nodes.now c.args.arcs.now costs lawful c.args.prices.now c.args.step c.requires.step.0 c.narrow.new.lows c.narrow.new.highs narrowed c.hold.new.loads c.requires.sound
+      ready = ready_within c.args.nodes.now c.args.arcs.now costs lawful c.args.prices.now c.args.step c.requires.step.0 c.narrow_due.new.lows c.narrow_due.new.highs narrowed c.hold.new.loads c.requires.sound
           (omega arith) (omega arith) (omega arith) c.hold.ensures;
-      near = c.requires.near;
       long = c.requires.long;
       balanced = c.requires.balanced;
     }
@@ -35,10 +34,10 @@ returns g c =
     let costs = map g.C.Cost.meaning c.args.costs.now in
     let lawful = λ (a : ℕ) (h : a < length c.args.arcs.now). each_cost g.C.Cost.meaning Lawful g.met.C.Cost.lawful c.args.costs.now a (omega arith) in
     let given_step = c.ranges.step in
-    let narrowed = simp to_z-of_z at c.narrow.ensures in
+    let narrowed = simp to_z-of_z at c.narrow_due.ensures in
     record {
       narrowed = narrowed;
-      met = λ yes. meets_within c.args.nodes.now c.args.arcs.now costs lawful c.args.prices.now c.args.step c.requires.step.0 c.narrow.new.lows c.narrow.new.highs narrowed (numbers c.meet.new.loads) (c.meet.ensures.met yes);
-      slack = λ yes one. slack_within c.args.nodes.now c.args.arcs.now costs lawful c.args.prices.now c.args.step c.requires.step.0 c.narrow.new.lows c.narrow.new.highs narrowed (numbers c.meet.new.loads) one (c.meet.ensures.met yes);
-      rises = λ no_way. rises_beyond c.args.nodes.now c.args.arcs.now costs lawful c.args.prices.now c.args.step c.requires.step.0 c.narrow.new.lows c.narrow.new.highs narrowed (reached_in c.meet.new.labels) (c.meet.ensures.barred no_way);
+      met = λ yes. meets_within c.args.nodes.now c.args.arcs.now costs lawful c.args.prices.now c.args.step c.requires.step.0 c.narrow_due.new.lows c.narrow_due.new.highs narrowed (numbers c.meet.new.loads) (c.meet.ensures.met yes);
+      slack = λ yes one. slack_within c.args.nodes.now c.args.arcs.now costs lawful c.args.prices.now c.args.step c.requires.step.0 c.narrow_due.new.lows c.narrow_due.new.highs narrowed (numbers c.meet.new.loads) one (c.meet.ensures.met yes);
+      rises = λ no_way. rises_beyond c.args.nodes.now c.args.arcs.now costs lawful c.args.prices.now c.args.step c.requires.step.0 c.narrow_due.new.lows c.narrow_due.new.highs narrowed (reached_in c.meet.new.labels) (c.meet.ensures.barred no_way);
     }

@@ -30,7 +30,6 @@ attempt-requires g c =
     record {
       sound = c.requires.sound;
       costed = c.requires.costed;
-      near = c.near_of-near.ensures;
       kept = c.loop-anew.invariant.5;
       lows_long = omega (arith, c.loop-anew.invariant.3, c.requires.sound.arc_limit);
       highs_long = omega (arith, c.loop-anew.invariant.4, c.requires.sound.arc_limit);

@@ -24,7 +24,6 @@ meet-requires g c =
     record {
       ready = whole_ready c.args.nodes.now c.args.arcs.now costs lawful c.widen.new.lows c.widen.new.highs low_is high_is c.hold.new.loads c.requires.sound
           (omega (arith, c.requires.sound.arc_limit)) (omega (arith, c.requires.sound.arc_limit)) (omega arith) c.hold.ensures;
-      near = c.near_of-near.ensures;
       long = c.requires.long;
       balanced = c.requires.balanced;
     }
