@@ -86,16 +86,19 @@ pub trait Written: Cost {
     ghost accepted: { (c : Self) → refuses (row c) ≡ None };
 
     ghost told: { (c : Self) → long (slice_index_or (row c) 0 (pos 0)) ≡ Some (length (row c)) };
+}
 
+// A written kind whose letter and rows fit the lines of a record.
+pub trait Recorded: Written {
     // A content means what its row means.
-    ghost meant: { (c : Self) → Self.Cost.meaning c ≡ means (row c) };
+    ghost meant: { (c : Self) → Self.Cost.meaning c ≡ Self.Written.means (Self.Written.row c) };
 
     // Each number of the row of a content has at most ten digits.
-    ghost brief: { (c : Self) (k : ℕ) → k < length (row c) → unsigned_abs (slice_index_or (row c) k (pos 0)) < 10 ^ 10 };
+    ghost brief: { (c : Self) (k : ℕ) → k < length (Self.Written.row c) → unsigned_abs (slice_index_or (Self.Written.row c) k (pos 0)) < 10 ^ 10 };
 
     // A row has from 1 to 19 numbers.
-    ghost few: { (first : ℤ) (n : ℕ) → long first ≡ Some n → (1 ≤ n) × (n ≤ 19) };
+    ghost few: { (first : ℤ) (n : ℕ) → Self.Written.long first ≡ Some n → (1 ≤ n) × (n ≤ 19) };
 
     // The letter is visible and one byte long.
-    ghost visible: { (32 < sign) × (sign < 127) };
+    ghost visible: { (32 < Self.Written.sign) × (Self.Written.sign < 127) };
 }

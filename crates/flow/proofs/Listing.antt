@@ -29,7 +29,7 @@ pub listed_more : (a node : ℕ) (lists more : Lists) → Listed a lists → nod
     → more.firsts ≡ set lists.firsts node (Some a)
     → more.nexts ≡ set lists.nexts a (listed_at lists.firsts node)
     → Listed (a + 1) more
-listed_more a node lists more listed in-nodes in-arcs first next = record {
+listed_more a node lists more listed in_nodes in_arcs first next = record {
   firsts_long = ap length first ∙ length-set lists.firsts node (Some a) ∙ listed.firsts_long;
   nexts_long = ap length next ∙ length-set lists.nexts a (listed_at lists.firsts node) ∙ listed.nexts_long;
   firsts_below = rw first (bounded lists.firsts node (Some a) (λ k. a + 1) (omega (arith, listed.firsts_long)) (λ k. omega (arith, listed.firsts_below k)) (omega arith));

@@ -38,13 +38,13 @@ starts m t lawful tense =
     }
 
 -- and goes on over an increment below the tension
-pub record Goes_on (m : Meaning) (t x value i : ℤ) : Type 0 where
+pub record GoesOn (m : Meaning) (t x value i : ℤ) : Type 0 where
   pub load_fits : SFits w64 (x +ℤ pos 1)
   pub term_fits : SFits w64 (i -ℤ t)
   pub value_fits : SFits w64 (value +ℤ (i -ℤ t))
   pub reached : Reached m t (x +ℤ pos 1) (value +ℤ (i -ℤ t))
 
-pub goes_on : (m : Meaning) (t x value i : ℤ) → Lawful m → Tension t → Reached m t x value → increment_at m x ≡ Some i → i <ℤ t → Goes_on m t x value i
+pub goes_on : (m : Meaning) (t x value i : ℤ) → Lawful m → Tension t → Reached m t x value → increment_at m x ≡ Some i → i <ℤ t → GoesOn m t x value i
 goes_on m t x value i lawful tense reached e small =
     let here = reduced_limit m t x lawful tense reached.within in
     let next = reduced_limit m t (x +ℤ pos 1) lawful tense (next_in_range m x i e) in

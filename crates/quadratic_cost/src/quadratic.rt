@@ -10,7 +10,7 @@ ghost use Rattle.std.proofs.Common.{rules};
 use cost::costs::Cost;
 use cost::numbers::{INCREMENTS, LOADS, NumberFault, SQUARES};
 use cost::refusals::CostFault;
-use cost::written::{Row, Written};
+use cost::written::{Recorded, Row, Written};
 
 // Any three numbers are a content; those that `new` would refuse mean the empty cost.
 #[derive(Clone, Copy, Debug, PartialEq, Eq)]
@@ -119,14 +119,6 @@ impl Written for Quadratic {
 
     ghost told = { Prim.search rules };
 
-    ghost meant = { Prim.search rules };
-
-    ghost brief = { λ q. brief_row q };
-
-    ghost few = { Prim.search rules };
-
-    ghost visible = { Prim.search rules };
-
     fn sign() -> char {
         Self::LETTER
     }
@@ -149,4 +141,14 @@ impl Written for Quadratic {
         }
         row
     }
+}
+
+impl Recorded for Quadratic {
+    ghost meant = { Prim.search rules };
+
+    ghost brief = { λ q. brief_row q };
+
+    ghost few = { Prim.search rules };
+
+    ghost visible = { Prim.search rules };
 }

@@ -178,7 +178,7 @@ module _ (text : List ℕ) where
           moved k₂ m₀ c (placed same all) third.arc_count third.apart first.enough is
         where
           placed : {bytes other : List ℕ} {end : ℕ} → bytes ≡ other → Stands text 0 bytes end → Stands text 0 other end
-          placed bytes-are known = rw (sym bytes-are) known
+          placed bytes_are known = rw (sym bytes_are) known
 
           moved : (k₂ : Sketch) (m₀ c : ℕ)
               → Stands text 0 (network_text (net_start letter) (pos (length k₂.nodes) ∷ pos (length k₂.arcs) ∷ []) (supplies_of k₂.nodes) (tails_of k₂.arcs) (heads_of k₂.arcs)) c

@@ -6,7 +6,7 @@ ghost use Rattle.record.specs.Outcomes.{shown_by};
 ghost use Rattle.record.specs.Readings.{arc_stage, fed, laid, net_stage, network_stage, supply_stage};
 
 use crate::faults::{RecordFault, Spot};
-use cost::written::Written;
+use cost::written::Recorded;
 use record_form::lines;
 use sheet::sheets::drafting::Draft;
 use sheet::sheets::drafting::steps::size;
@@ -64,7 +64,7 @@ fn lay_all(draft: Draft, tails: &[i64], heads: &[i64]) -> Result<Draft, RecordFa
 }
 
 // The first line: a draft of so many nodes, if there are cost places enough.
-fn net_line<W: Written>(text: &[u8], places: usize) -> Result<Begun, RecordFault>
+fn net_line<W: Recorded>(text: &[u8], places: usize) -> Result<Begun, RecordFault>
     ensures shown { shown_by (λ b. ((sketch_of b.draft, b.arcs), b.at)) result ≡ net_stage text.now W.Written.sign places }
     ensures nodes { IfOk result (λ b. (b.nodes ≡ length (sketch_of b.draft).nodes) × (b.nodes ≤ 64)) }
     ensures arcs { IfOk result (λ b. (b.arcs ≤ 256) × (b.arcs ≤ places)) }
@@ -122,7 +122,7 @@ fn arc_lines(
 }
 
 // The first four lines: a draft of the whole network.
-pub(crate) fn network_lines<W: Written>(text: &[u8], places: usize) -> Result<Network, RecordFault>
+pub(crate) fn network_lines<W: Recorded>(text: &[u8], places: usize) -> Result<Network, RecordFault>
     ensures shown { shown_by (λ net. ((sketch_of net.draft, net.arcs), net.at)) result ≡ network_stage text.now W.Written.sign places }
     ensures arcs { IfOk result (λ net. (net.arcs ≤ 256) × (net.arcs ≤ places)) }
 {

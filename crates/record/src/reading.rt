@@ -10,7 +10,7 @@ ghost use Rattle.record.specs.Theorems.{LoopFree};
 use crate::drafts::network_lines;
 use crate::faults::RecordFault;
 use crate::rows::cost_lines;
-use cost::written::Written;
+use cost::written::Recorded;
 use sheet::sheets::Sheet;
 use text::cursor::Cursor;
 
@@ -25,7 +25,7 @@ fn check_end(text: &[u8], at: usize) -> Result<(), RecordFault>
 
 // Reads a text: the sheet becomes the book that the text gives, and the first cost places are filled from its rows. A
 // text is accepted only if it is the one that `write` gives for what was read.
-pub fn read<W: Written + Copy>(
+pub fn read<W: Recorded + Copy>(
     text: &[u8],
     sheet: &mut Sheet,
     places: &mut [W],

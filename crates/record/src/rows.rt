@@ -4,7 +4,7 @@ ghost use Rattle.record.specs.Outcomes.{Filled, shown_by};
 ghost use Rattle.record.specs.Readings.{row_stage, rows_from};
 
 use crate::faults::{RecordFault, Spot};
-use cost::written::Written;
+use cost::written::Recorded;
 use record_form::lines;
 use text::cursor::Cursor;
 
@@ -12,7 +12,7 @@ use text::cursor::Cursor;
 const FIRST_ROW: usize = 5;
 
 // One line of a cost: its row fills a copy of the place, which is stored back if the row is accepted.
-fn cost_line<W: Written + Copy>(
+fn cost_line<W: Recorded + Copy>(
     text: &[u8],
     at: usize,
     line: usize,
@@ -31,7 +31,7 @@ fn cost_line<W: Written + Copy>(
 }
 
 // A line for each cost place.
-pub(crate) fn cost_lines<W: Written + Copy>(
+pub(crate) fn cost_lines<W: Recorded + Copy>(
     text: &[u8],
     at: usize,
     places: &mut [W],

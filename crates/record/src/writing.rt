@@ -11,13 +11,13 @@ ghost use Rattle.record.specs.Theorems.{ReadsBack};
 
 use crate::faults::WritingFault;
 use crate::outlines::{Outline, heads_of, supplies_of, tails_of};
-use cost::written::Written;
+use cost::written::Recorded;
 use record_form::lines::COST;
 use record_form::setting::{line_length, write_line};
 use sheet::sheets::Sheet;
 
 // How long the lines of the costs are.
-fn rows_length<W: Written>(costs: &[W]) -> usize
+fn rows_length<W: Recorded>(costs: &[W]) -> usize
     requires { length costs.now ≤ 256 }
     ensures length { result ≡ length (row_lines (map W.Written.row costs.now)) }
     ensures short { result ≤ 420 * length costs.now }
@@ -31,7 +31,7 @@ fn rows_length<W: Written>(costs: &[W]) -> usize
 }
 
 // Writes the line of one cost.
-fn write_row<W: Written>(into: &mut [u8], at: usize, cost: &W) -> usize
+fn write_row<W: Recorded>(into: &mut [u8], at: usize, cost: &W) -> usize
     requires { at + length (line (codes "c") (W.Written.row cost.now)) ≤ length into.old }
     ensures next { result ≡ at + length (line (codes "c") (W.Written.row cost.now)) }
     ensures into { into.new ≡ written into.old at (line (codes "c") (W.Written.row cost.now)) }
@@ -41,7 +41,7 @@ fn write_row<W: Written>(into: &mut [u8], at: usize, cost: &W) -> usize
 }
 
 // Writes the lines of the costs.
-fn write_rows<W: Written>(into: &mut [u8], at: usize, costs: &[W]) -> usize
+fn write_rows<W: Recorded>(into: &mut [u8], at: usize, costs: &[W]) -> usize
     requires { at + length (row_lines (map W.Written.row costs.now)) ≤ length into.old }
     ensures next { result ≡ at + length (row_lines (map W.Written.row costs.now)) }
     ensures into { into.new ≡ written into.old at (row_lines (map W.Written.row costs.now)) }
@@ -54,7 +54,7 @@ fn write_rows<W: Written>(into: &mut [u8], at: usize, costs: &[W]) -> usize
 }
 
 // Writes an outline and the lines of the costs, if there is room for all of it.
-fn write_whole<W: Written>(
+fn write_whole<W: Recorded>(
     outline: &Outline<'_>,
     costs: &[W],
     bytes: &mut [u8],
@@ -78,7 +78,7 @@ fn write_whole<W: Written>(
 
 // Writes the book of a sheet with its costs into bytes that are lent, and answers how long the text is. What is written
 // reads back, and each row means what its cost means.
-pub fn write<W: Written>(
+pub fn write<W: Recorded>(
     sheet: &Sheet,
     costs: &[W],
     bytes: &mut [u8],

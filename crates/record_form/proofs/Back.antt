@@ -123,7 +123,7 @@ module _ (text : List ℕ) where
 
   pub first_line_back : (at letter n m next : ℕ) → at ≤ length text → Stands text at (net_line letter (pos n) (pos m)) next → 32 < letter → n ≤ 64 → m ≤ 256
       → first_line_at text at letter ≡ Ok (record { nodes = pos n; arcs = pos m }, next)
-  first_line_back at letter n m next few stands visible small_n small-m =
+  first_line_back at letter n m next few stands visible small_n small_m =
       let nodes = decimal (pos n) in
       let arcs = decimal (pos m) in
       let stands' : Stands text at (codes "net" ++ (32 ∷ letter ∷ 32 ∷ (nodes ++ (32 ∷ (arcs ++ (10 ∷ [])))))) next =
@@ -150,7 +150,7 @@ module _ (text : List ℕ) where
       (space_back a b few_a two.0)
       (word_back b (letter ∷ []) c few_b three.0 (letter_field letter visible) (ends_by c 32 (nodes ++ r₅) next three.1 refl))
       (count_back c (pos 64) (pos n) d few_c four.0 (within_count n 64 small_n) (omega arith) (ends_by d 32 (arcs ++ (10 ∷ [])) next four.1 refl))
-      (count_back d (pos 256) (pos m) e few_d five.0 (within_count m 256 small-m) (omega arith) (ends_by e 10 [] next five.1 refl))
+      (count_back d (pos 256) (pos m) e few_d five.0 (within_count m 256 small_m) (omega arith) (ends_by e 10 [] next five.1 refl))
       (end_back e next few_e five.1)
 
   pub text_end_back : text_end_at text (length text) ≡ past (length text)

@@ -6,7 +6,7 @@ ghost use Rattle.record_form.specs.Lines.{count_at, first_line_at, list_at, row_
 ghost use Rattle.record_form.specs.Answers.{as_numbers};
 
 use cost::numbers::Limits;
-use cost::written::{Row, Written};
+use cost::written::{Recorded, Row};
 use text::cursor::Cursor;
 
 // The words that begin the lines.
@@ -96,7 +96,7 @@ fn row_end(cursor: &mut Cursor<'_>, first: i64, further: &mut [i64]) -> Result<R
 }
 
 // A line of the word `c` and a row, which has as many numbers as the first of them tells.
-pub fn row<W: Written>(cursor: &mut Cursor<'_>) -> Result<Row, usize>
+pub fn row<W: Recorded>(cursor: &mut Cursor<'_>) -> Result<Row, usize>
     ensures { Makes (λ text at. row_at text at W.Written.long) cursor.old cursor.new (as_numbers result) }
 {
     let mut ahead = *cursor;

@@ -1,6 +1,6 @@
 // What the tables of records are held to.
 use cost::refusals::{Layer, Refusal};
-use cost::written::Written;
+use cost::written::Recorded;
 use quadratic_cost::quadratic::Quadratic;
 use record::faults::{RecordFault, Spot};
 use record::reading::read;
@@ -72,7 +72,7 @@ fn check_fault(rt: &impl Abort, fault: RecordFault, case: Case) {
 }
 
 // The text is refused as the case says; the sheet, which held a book before, is then blank.
-pub(crate) fn check_refused<W: Written + Copy>(
+pub(crate) fn check_refused<W: Recorded + Copy>(
     rt: &impl Abort,
     places: &mut [W],
     case: Case,
@@ -94,7 +94,7 @@ pub(crate) fn check_refused<W: Written + Copy>(
     }
 }
 
-pub(crate) fn check_all<W: Written + Copy>(
+pub(crate) fn check_all<W: Recorded + Copy>(
     rt: &impl Abort,
     places: &mut [W],
     cases: &[Case],

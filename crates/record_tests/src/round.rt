@@ -1,7 +1,7 @@
 // Records that are read, written and read again.
 use crate::checks::{untouched, untouched_square};
 use cost::refusals::{Layer, Refusal};
-use cost::written::Written;
+use cost::written::Recorded;
 use ledger::standing::Standing;
 use quadratic_cost::quadratic::Quadratic;
 use record::faults::WritingFault;
@@ -16,7 +16,7 @@ const EXAMPLE: &[u8] =
     b"net S 3 3\nsup 4 0 -4\nfrom 1 2 1\nto 2 3 3\nc 1 0 0 4 1\nc 1 0 0 4 2\nc 2 0 0 2 2 2 5\n";
 
 // A text that is accepted is what is written again, and the bytes past it are as they were.
-fn check_rewritten<W: Written>(
+fn check_rewritten<W: Recorded>(
     rt: &impl Abort,
     text: &[u8],
     sheet: &Sheet,

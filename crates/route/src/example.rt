@@ -1,6 +1,6 @@
 // The example: three nodes and three arcs.
 use cost::refusals::CostFault;
-use ledger::faults::DraftFault;
+use sheet::faults::DraftFault;
 use sheet::sheets::Sheet;
 use sheet::sheets::drafting::stages::begin;
 use sheet::sheets::drafting::steps::size;

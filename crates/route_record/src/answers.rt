@@ -2,7 +2,7 @@
 use chain::calls::Call;
 use chain::replaying::replay;
 use cost::refusals::{Layer, Refusal};
-use cost::written::Written;
+use cost::written::Recorded;
 use quadratic_cost::quadratic::Quadratic;
 use record::faults::{RecordFault, Spot};
 use record::reading::read;
@@ -74,7 +74,7 @@ fn write_set(heap: Global, sheet: &Sheet, out: &mut String) -> Result<(), AllocE
 
 // Makes the calls, of which settle is the last, and tells charge, floor and loads, or the refusal and the set that bars every
 // routing.
-fn settled<W: Written + Copy>(
+fn settled<W: Recorded + Copy>(
     heap: Global,
     sheet: &mut Sheet,
     costs: &mut [W],
@@ -100,7 +100,7 @@ fn settled<W: Written + Copy>(
 }
 
 // The answer to a record of one kind of cost, which is read into the places, after the calls on its book.
-fn answer_with<W: Written + Copy>(
+fn answer_with<W: Recorded + Copy>(
     heap: Global,
     text: &[u8],
     places: &mut [W],

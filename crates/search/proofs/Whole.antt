@@ -22,10 +22,10 @@ module _ (nodes : List Node) (arcs : List Arc) (costs : List Meaning) (lawful : 
 
   pub whole_ready : (loads : List ℤ) → Sound nodes arcs → length arcs ≤ length lows → length arcs ≤ length highs → length arcs ≤ length loads → Held (length arcs) (numbers lows) (numbers highs) (numbers loads)
       → Ready nodes arcs lows highs loads
-  whole_ready loads sound low-long high-long long held = record {
+  whole_ready loads sound low_long high_long long held = record {
     sound = sound;
-    lows_long = low-long;
-    highs_long = high-long;
+    lows_long = low_long;
+    highs_long = high_long;
     loads_long = long;
     low_limit = λ a h. omega (arith, ints, low_is a h);
     high_limit = λ a h. omega (arith, ints, high_is a h, (lawful a h).last_limit);

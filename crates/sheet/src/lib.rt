@@ -4,4 +4,6 @@
 
 #![tactic(auto)]
 
+pub use ledger::{faults, standing};
+
 pub mod sheets;

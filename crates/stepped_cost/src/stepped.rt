@@ -17,7 +17,7 @@ ghost use Rattle.std.proofs.Common.{rules};
 use cost::costs::Cost;
 use cost::numbers::{COUNTS, INCREMENTS, LOADS, Limits, NumberFault, OPENINGS, WIDTHS};
 use cost::refusals::CostFault;
-use cost::written::{Row, Written};
+use cost::written::{Recorded, Row, Written};
 
 pub const MOST_PIECES: usize = 8;
 
@@ -271,14 +271,6 @@ impl Written for Stepped {
 
     ghost told = { λ c. (honest c).long };
 
-    ghost meant = { λ c. (honest c).means };
-
-    ghost brief = { λ c. (honest c).brief };
-
-    ghost few = { λ first n told. long_tells first n told };
-
-    ghost visible = { Prim.search rules };
-
     fn sign() -> char {
         Self::LETTER
     }
@@ -308,4 +300,14 @@ impl Written for Stepped {
         }
         row
     }
+}
+
+impl Recorded for Stepped {
+    ghost meant = { λ c. (honest c).means };
+
+    ghost brief = { λ c. (honest c).brief };
+
+    ghost few = { λ first n told. long_tells first n told };
+
+    ghost visible = { Prim.search rules };
 }

@@ -1,5 +1,5 @@
 -- Fields that are numbers: their bytes, their length and their value.
-use Rattle.std.proofs.Common.{◌≡◌, ℕ, zero, suc, ◌+◌, ◌-◌, ◌*◌, ◌/◌, ◌%◌, ◌^◌, ◌<◌, ◌≤◌, Bool, true, false, not, ◌&&◌, eqb, ltb, leb, List, [], ◌∷◌, length, get_or, drop, pos, neg_ℤ, decimal as natural-text, sym, refl, ap, ◌∙◌, subst, arith, rules}
+use Rattle.std.proofs.Common.{◌≡◌, ℕ, zero, suc, ◌+◌, ◌-◌, ◌*◌, ◌/◌, ◌%◌, ◌^◌, ◌<◌, ◌≤◌, Bool, true, false, not, ◌&&◌, eqb, ltb, leb, List, [], ◌∷◌, length, get_or, drop, pos, neg_ℤ, decimal as natural_text, sym, refl, ap, ◌∙◌, subst, arith, rules}
 use Rattle.std.specs.Char.{is_ascii_digit}
 use Rattle.std.specs.Fmt.{digits, digit_glyph, digits_onto}
 use Rattle.std.specs.Str.{all_ascii_digits, bytes_eq}
@@ -31,14 +31,14 @@ spelled_digits (suc k) n ds all =
     cond_both (eqb (n / 10) 0) (digit_glyph false (n % 10) ∷ ds) (digits_onto k 10 false (n / 10) (digit_glyph false (n % 10) ∷ ds)) (λ (bs : List ℕ). all_ascii_digits bs ≡ true)
     (λ e. last_digit n ds all) (λ e. spelled_digits k (n / 10) (digit_glyph false (n % 10) ∷ ds) (last_digit n ds all))
 
-pub text_digits : (n : ℕ) → all_ascii_digits (natural-text n) ≡ true
+pub text_digits : (n : ℕ) → all_ascii_digits (natural_text n) ≡ true
 unfolding digits
 text_digits n = spelled_digits 64 n [] refl
 
 -- what is known of a run of digits that is a natural number
 pub record Natural (ds : List ℕ) : Type 0 where
   pub few : length ds ≤ 10
-  pub written : ds ≡ natural-text (value_after 0 ds)
+  pub written : ds ≡ natural_text (value_after 0 ds)
   pub all : all_ascii_digits ds ≡ true
   pub small : value_after 0 ds < 10 ^ 10
   pub some : 0 < length ds
@@ -51,14 +51,14 @@ natural_facts ds e = record { few = few; written = written; all = all; small = s
     n : ℕ
     n = value_after 0 ds
 
-    parts : (leb (length ds) 10 ≡ true) × (bytes_eq ds (natural-text n) ≡ true)
-    parts = and_parts (leb (length ds) 10) (bytes_eq ds (natural-text n)) e
+    parts : (leb (length ds) 10 ≡ true) × (bytes_eq ds (natural_text n) ≡ true)
+    parts = and_parts (leb (length ds) 10) (bytes_eq ds (natural_text n)) e
 
     few : length ds ≤ 10
     few = leb-true (length ds) 10 parts.0
 
-    written : ds ≡ natural-text n
-    written = (bytes_eq-Decides ds (natural-text n)).0 parts.1
+    written : ds ≡ natural_text n
+    written = (bytes_eq-Decides ds (natural_text n)).0 parts.1
 
     all : all_ascii_digits ds ≡ true
     all = ap all_ascii_digits written ∙ text_digits n
@@ -70,7 +70,7 @@ natural_facts ds e = record { few = few; written = written; all = all; small = s
     some = omega (arith, ap length written, decimal_nonempty n (omega (arith, small)))
 
     by_value : (m : ℕ) → m ≡ n → get_or ds 0 0 ≡ 48 → length ds ≡ 1
-    by_value zero zero_is lead = ap length (written ∙ ap natural-text (sym zero_is) ∙ decimal_digit 0 (omega arith))
+    by_value zero zero_is lead = ap length (written ∙ ap natural_text (sym zero_is) ∙ decimal_digit 0 (omega arith))
     by_value (suc m) more lead = absurd (omega (arith, lead, first_decimal n (omega arith) (omega (arith, small)), ap (λ (bs : List ℕ). get_or bs 0 0) written))
 
     lead : get_or ds 0 0 ≡ 48 → length ds ≡ 1
@@ -80,8 +80,8 @@ natural_facts ds e = record { few = few; written = written; all = all; small = s
 pub natural_from : (ds : List ℕ) → 0 < length ds → length ds ≤ 10 → (get_or ds 0 0 ≡ 48 → length ds ≡ 1) → all_ascii_digits ds ≡ true → is_natural ds ≡ true
 unfolding is_natural
 natural_from ds some few lead all =
-    and_from (leb (length ds) 10) (bytes_eq ds (natural-text (value_after 0 ds))) (le-leb (length ds) 10 few)
-    ((bytes_eq-Decides ds (natural-text (value_after 0 ds))).1 (sym (decimal-digits_value own ds all some lead (omega (arith, digits_value_short own ds 10 all few)))))
+    and_from (leb (length ds) 10) (bytes_eq ds (natural_text (value_after 0 ds))) (le-leb (length ds) 10 few)
+    ((bytes_eq-Decides ds (natural_text (value_after 0 ds))).1 (sym (decimal-digits_value own ds all some lead (omega (arith, digits_value_short own ds 10 all few)))))
 
 -- two tests that say the same
 agree : (a b : Bool) → (a ≡ true → b ≡ true) → (b ≡ true → a ≡ true) → a ≡ b
@@ -154,7 +154,7 @@ after_a_minus ds = go (value_after 0 ds) refl
     few : Bool
     few = leb (length ds) 10
 
-    zero_text : natural-text 0 ≡ 48 ∷ []
+    zero_text : natural_text 0 ≡ 48 ∷ []
     zero_text = decimal_digit 0 (omega arith)
 
     go : (n : ℕ) → value_after 0 ds ≡ n → few && bytes_eq (45 ∷ ds) (decimal (neg_ℤ (pos (value_after 0 ds)))) ≡ is_natural ds && not (eqb (get_or ds 0 0) 48)
@@ -163,11 +163,11 @@ after_a_minus ds = go (value_after 0 ds) refl
         ∙ ap (λ (t : List ℕ). few && bytes_eq (45 ∷ ds) t) zero_text ∙ and_right few false refl
         ∙ refuted (is_natural ds && not (eqb (get_or ds 0 0) 48)) (λ e.
         let both = and_parts (is_natural ds) (not (eqb (get_or ds 0 0) 48)) e in
-        let written : ds ≡ 48 ∷ [] = (natural_facts ds both.0).written ∙ ap natural-text none ∙ zero_text in
+        let written : ds ≡ 48 ∷ [] = (natural_facts ds both.0).written ∙ ap natural_text none ∙ zero_text in
         eqb-false (get_or ds 0 0) 48 (not-true (eqb (get_or ds 0 0) 48) both.1) (ap (λ (t : List ℕ). get_or t 0 0) written))
     go (suc n) more =
         ap (λ (k : ℕ). few && bytes_eq (45 ∷ ds) (decimal (neg_ℤ (pos k)))) more
-        ∙ sym (ap (λ (k : ℕ). few && bytes_eq ds (natural-text k)) more)
+        ∙ sym (ap (λ (k : ℕ). few && bytes_eq ds (natural_text k)) more)
         ∙ absorb (is_natural ds) (not (eqb (get_or ds 0 0) 48)) (λ e.
         let facts = natural_facts ds e in
         ap not (ne_eqb (get_or ds 0 0) 48 (λ zero_leads.
@@ -183,7 +183,7 @@ pub number_natural : (bs : List ℕ) → is_number bs ≡ true → is_natural (a
 number_natural bs e = go (has_minus bs) refl
   where
     go : (minus : Bool) → has_minus bs ≡ minus → is_natural (after_minus bs) ≡ true
-    go true with-minus = (and_parts (is_natural (after_minus bs)) (not (eqb (get_or (after_minus bs) 0 0) 48)) (sym (number_minus bs with-minus) ∙ e)).0
+    go true with_minus = (and_parts (is_natural (after_minus bs)) (not (eqb (get_or (after_minus bs) 0 0) 48)) (sym (number_minus bs with_minus) ∙ e)).0
     go false plain = sym (number_plain bs plain) ∙ e
 
 -- the value of a field by its digits

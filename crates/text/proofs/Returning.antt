@@ -1,5 +1,5 @@
 -- Words, numbers and ends read back where they are written, and are read nowhere else.
-use Rattle.std.proofs.Common.{◌≡◌, ℕ, zero, suc, ◌+◌, ◌^◌, ◌<◌, ◌≤◌, Bool, true, false, cond, eqb, leb, List, [], ◌∷◌, ◌++◌, length, get_or, drop, ℤ, pos, negsuc, neg_ℤ, nat_abs, Ok, Err, decimal as natural-text, sym, refl, ap, ◌∙◌, subst, arith}
+use Rattle.std.proofs.Common.{◌≡◌, ℕ, zero, suc, ◌+◌, ◌^◌, ◌<◌, ◌≤◌, Bool, true, false, cond, eqb, leb, List, [], ◌∷◌, ◌++◌, length, get_or, drop, ℤ, pos, negsuc, neg_ℤ, nat_abs, Ok, Err, decimal as natural_text, sym, refl, ap, ◌∙◌, subst, arith}
 use Rattle.std.specs.Str.{all_ascii_digits, bytes_eq}
 use Rattle.std.proofs.lemmas.Fmt.{digits_value-decimal, decimal_nonempty, length-decimal-le}
 use Rattle.std.proofs.lemmas.Slice.Eq.{bytes_eq-Decides}
@@ -59,18 +59,18 @@ digits_field (c ∷ cs) all =
     field_goes_on c cs goes_on ∙ ap (λ (end : List ℕ). c ∷ end) (digits_field cs parts.1)
 
 decimal_field : (x : ℤ) → IsField (decimal x)
-decimal_field (pos n) = digits_field (natural-text n) (text_digits n)
-decimal_field (negsuc n) = field_goes_on 45 (natural-text (suc n)) refl ∙ ap (λ (end : List ℕ). 45 ∷ end) (digits_field (natural-text (suc n)) (text_digits (suc n)))
+decimal_field (pos n) = digits_field (natural_text n) (text_digits n)
+decimal_field (negsuc n) = field_goes_on 45 (natural_text (suc n)) refl ∙ ap (λ (end : List ℕ). 45 ∷ end) (digits_field (natural_text (suc n)) (text_digits (suc n)))
 
-no_minus : (n : ℕ) → n < 2 ^ 64 → has_minus (natural-text n) ≡ false
-no_minus n small = ne_eqb (get_or (natural-text n) 0 0) 45 (λ e. omega (arith, digit_at (natural-text n) 0 (own.to (natural-text n) (text_digits n)) (decimal_nonempty n small)))
+no_minus : (n : ℕ) → n < 2 ^ 64 → has_minus (natural_text n) ≡ false
+no_minus n small = ne_eqb (get_or (natural_text n) 0 0) 45 (λ e. omega (arith, digit_at (natural_text n) 0 (own.to (natural_text n) (text_digits n)) (decimal_nonempty n small)))
 
-no_minus_before : (n : ℕ) → n < 2 ^ 64 → after_minus (natural-text n) ≡ natural-text n
-no_minus_before n small = ap (λ (minus : Bool). drop (cond minus 1 0) (natural-text n)) (no_minus n small)
+no_minus_before : (n : ℕ) → n < 2 ^ 64 → after_minus (natural_text n) ≡ natural_text n
+no_minus_before n small = ap (λ (minus : Bool). drop (cond minus 1 0) (natural_text n)) (no_minus n small)
 
 value_of_decimal : (x : ℤ) → TenDigits x → value (decimal x) ≡ x
 value_of_decimal (pos n) short =
-    value_plain (natural-text n) (no_minus n (omega arith))
+    value_plain (natural_text n) (no_minus n (omega arith))
     ∙ ap (λ (ds : List ℕ). pos (value_after 0 ds)) (no_minus_before n (omega arith)) ∙ ap pos (digits_value-decimal own n (omega arith))
 value_of_decimal (negsuc n) short = ap (λ (k : ℕ). neg_ℤ (pos k)) (digits_value-decimal own (suc n) (omega arith))
 

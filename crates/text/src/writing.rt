@@ -1,6 +1,6 @@
 // Writing bytes and numbers into bytes that are lent. Each call writes from an offset on and answers the offset just past
 // what it wrote; the caller sees that there is room.
-ghost use Rattle.std.specs.Prelude.{◌≡◌, ◌+◌, ◌*◌, ◌^◌, ◌<◌, ◌≤◌, [], ◌∷◌, length, decimal as natural-text};
+ghost use Rattle.std.specs.Prelude.{◌≡◌, ◌+◌, ◌*◌, ◌^◌, ◌<◌, ◌≤◌, [], ◌∷◌, length, decimal as natural_text};
 ghost use Rattle.text.specs.Fields.{decimal};
 ghost use Rattle.text.specs.Writing.{spaced, written};
 
@@ -9,7 +9,7 @@ const DIGITS: usize = 20;
 
 // How many digits a number has.
 fn natural_length(number: u64) -> usize
-    ensures { result ≡ length (natural-text number) }
+    ensures { result ≡ length (natural_text number) }
 {
     let mut count = 1;
     let mut rest = number;
@@ -51,9 +51,9 @@ pub fn write_byte(into: &mut [u8], at: usize, byte: u8) -> usize
 
 // Writes the digits of a number; they are found from the last to the first.
 fn write_natural(into: &mut [u8], at: usize, number: u64) -> usize
-    requires { at + length (natural-text number) ≤ length into.old }
-    ensures next { result ≡ at + length (natural-text number) }
-    ensures into { into.new ≡ written into.old at (natural-text number) }
+    requires { at + length (natural_text number) ≤ length into.old }
+    ensures next { result ≡ at + length (natural_text number) }
+    ensures into { into.new ≡ written into.old at (natural_text number) }
 {
     let mut digits = [b'0'; DIGITS];
     let mut from = DIGITS;

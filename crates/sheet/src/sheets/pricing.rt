@@ -11,6 +11,7 @@ ghost use Rattle.ledger.specs.Calls.{charge_answer, floor_answer};
 use crate::sheets::Sheet;
 use cost::costs::Cost;
 use ledger::faults::SheetFault;
+pub use ledger::pricing::PRICES;
 use ledger::pricing::{charged, floored};
 use network::records::{Arc, Node};
 

@@ -2,7 +2,7 @@
 use Rattle.std.proofs.Common.{ℤ, arith, rules}
 use Rattle.std.proofs.lemmas.Int.{ints}
 use Rattle.cost.proofs.Amount.{increment_below}
-use Rattle.network.proofs.Walk.{Tension, Starts, starts, Goes_on, goes_on, ends_before, ends_at_last}
+use Rattle.network.proofs.Walk.{Tension, Starts, starts, GoesOn, goes_on, ends_before, ends_at_last}
 use Rattle.network.proofs.floor.least_of.Given as given
 use Rattle.network.proofs.floor.least_of.Goals as goal
 
@@ -23,7 +23,7 @@ unwrap-increment-requires g c =
     let e = increment_below (g.C.Cost.meaning c.args.cost.now) c.loop-load.load (omega (arith, ints)) (omega (arith, ints)) in
     search rules
 
-go : (g : given.Over) (c : goal.Else-increment-tension g) → Goes_on (g.C.Cost.meaning c.args.cost.now) c.args.tension c.loop-load.load c.loop-load.reduced c.unwrap-increment.result
+go : (g : given.Over) (c : goal.Else-increment-tension g) → GoesOn (g.C.Cost.meaning c.args.cost.now) c.args.tension c.loop-load.load c.loop-load.reduced c.unwrap-increment.result
 go g c =
     goes_on (g.C.Cost.meaning c.args.cost.now) c.args.tension c.loop-load.load c.loop-load.reduced c.unwrap-increment.result
     (g.met.C.Cost.lawful c.args.cost.now) c.requires (search rules) (search rules) (omega (arith, ints))

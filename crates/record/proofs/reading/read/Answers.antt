@@ -10,7 +10,7 @@ pub returns-in_err-network : goal.returns-in_err-network
 returns-in_err-network g c =
     let p = err_from_is_err_and c.from_residual.result c.from_residual.ensures.1 in
     let row = g.W.Written.row in
-    let meant = g.met.W.Written.meant in
+    let meant = g.met.W.Recorded.meant in
     rw (p.1, p.2)
     (record {
       outcome =
@@ -30,7 +30,7 @@ returns-in_err-end g c =
     rw (p.1, p.2)
     (record {
       outcome =
-          reads_refused row g.W.Cost.meaning g.W.Written.means g.met.W.Written.meant _ _ _ part _ c.blank.ensures
+          reads_refused row g.W.Cost.meaning g.W.Written.means g.met.W.Recorded.meant _ _ _ part _ c.blank.ensures
           (reading_stopped _ _ _ (sym net.shown) _ many c.in_err-end.ensures.end);
       written = tt;
       apart = tt;
@@ -46,7 +46,7 @@ returns-in_err-check_end g c =
     rw (p.1, p.2)
     (record {
       outcome =
-          reads_refused row g.W.Cost.meaning g.W.Written.means g.met.W.Written.meant _ _ _ part _ c.blank.ensures
+          reads_refused row g.W.Cost.meaning g.W.Written.means g.met.W.Recorded.meant _ _ _ part _ c.blank.ensures
           (reading_cut _ _ _ (sym net.shown) _ many c.in_ok-end.ensures.end c.in_err-check_end.ensures);
       written = tt;
       apart = tt;
@@ -59,7 +59,7 @@ returns g c =
     let many = part_long c.args.places.now c.in_ok-network.network.arcs net.arcs.1 in
     let part = filled_part row c.args.places.now c.cost_lines.new.places c.in_ok-network.network.arcs _ net.arcs.1 (omega arith) c.in_ok-end.ensures.places in
     let kind : Kind = record { letter = g.W.Written.sign; long = g.W.Written.long; refuses = g.W.Written.refuses } in
-    let outcome = reads_made row g.W.Cost.meaning g.W.Written.means g.met.W.Written.meant _ _ _ part _ c.«open».ensures
+    let outcome = reads_made row g.W.Cost.meaning g.W.Written.means g.met.W.Recorded.meant _ _ _ part _ c.«open».ensures
     (reading_made kind _ _ (sym net.shown) _ many c.in_ok-end.ensures.end c.in_ok-check_end.ensures) in
     record {
       outcome = outcome;

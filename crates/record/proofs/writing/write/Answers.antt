@@ -15,7 +15,7 @@ pub returns-then-costs-arcs : goal.returns-then-costs-arcs
 returns-then-costs-arcs g c = record {
   outcome = writes_none _ c.args.bytes.now _ _ (λ same. c.if-costs-arcs.true (same ∙ sym c.arc_count-arcs.ensures));
   back = tt;
-  means = all_mean g.W.Written.row g.W.Cost.meaning g.W.Written.means g.met.W.Written.meant c.args.costs.now;
+  means = all_mean g.W.Written.row g.W.Cost.meaning g.W.Written.means g.met.W.Recorded.meant c.args.costs.now;
 }
 
 pub returns : goal.returns
@@ -35,17 +35,18 @@ returns g c =
     let outcome = writes_by (record_text g.W.Written.sign book rows) c.args.bytes.now _ _ (ap (λ (front : List ℕ). front ++ row_lines rows) same) each c.write_whole.ensures.answer c.write_whole.ensures.bytes in
     let kind : Kind = record { letter = g.W.Written.sign; long = g.W.Written.long; refuses = g.W.Written.refuses } in
     let laws = g.met.W.Written in
+    let fits = g.met.W.Recorded in
     let good : (x : g.row.W.Denot) → Good kind (g.W.Written.row x) = λ x. record {
       accepted = laws.accepted x;
       told = laws.told x;
-      some = (laws.few (get_or (g.W.Written.row x) 0 (pos 0)) (length (g.W.Written.row x)) (laws.told x)).0;
-      brief = laws.brief x;
+      some = (fits.few (get_or (g.W.Written.row x) 0 (pos 0)) (length (g.W.Written.row x)) (laws.told x)).0;
+      brief = fits.brief x;
     } in
     record {
       outcome = outcome;
       back =
-          write_back kind sheet rows c.write_whole.result c.write_whole.new.bytes laws.visible.0 (length-map c.args.costs.now g.W.Written.row ∙ each)
+          write_back kind sheet rows c.write_whole.result c.write_whole.new.bytes fits.visible.0 (length-map c.args.costs.now g.W.Written.row ∙ each)
           (good_rows kind g.W.Written.row good c.args.costs.now)
           (written_text _ _ _ c.write_whole.result c.args.bytes.now c.write_whole.new.bytes outcome);
-      means = all_mean g.W.Written.row g.W.Cost.meaning g.W.Written.means laws.meant c.args.costs.now;
+      means = all_mean g.W.Written.row g.W.Cost.meaning g.W.Written.means fits.meant c.args.costs.now;
     }

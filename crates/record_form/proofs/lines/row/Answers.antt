@@ -36,16 +36,16 @@ returns-in_default g c =
     refl refl
 
 pub overflow_sub-count : goal.overflow_sub-count
-overflow_sub-count g c = (g.met.W.Written.few _ c.in-Some.count (sym c.row_length.ensures ∙ c.in-Some.is)).0
+overflow_sub-count g c = (g.met.W.Recorded.few _ c.in-Some.count (sym c.row_length.ensures ∙ c.in-Some.is)).0
 
 pub slice_bounds-further-end : goal.slice_bounds-further-end
 slice_bounds-further-end g c =
-    let many = g.met.W.Written.few _ c.in-Some.count (sym c.row_length.ensures ∙ c.in-Some.is) in
+    let many = g.met.W.Recorded.few _ c.in-Some.count (sym c.row_length.ensures ∙ c.in-Some.is) in
     search rules
 
 pub row_end-requires : goal.row_end-requires
 row_end-requires g c =
-    let many = g.met.W.Written.few _ c.in-Some.count (sym c.row_length.ensures ∙ c.in-Some.is) in
+    let many = g.met.W.Recorded.few _ c.in-Some.count (sym c.row_length.ensures ∙ c.in-Some.is) in
     search rules
 
 pub returns-in_err-row : goal.returns-in_err-row
@@ -56,7 +56,7 @@ returns-in_err-row g c =
     let number = c.in_ok-first.ensures in
     let first : SFits w64 c.in_ok-first.first = search rules in
     let told = simp to_z-of_z at (sym c.row_length.ensures ∙ c.in-Some.is) in
-    let many = g.met.W.Written.few _ c.in-Some.count told in
+    let many = g.met.W.Recorded.few _ c.in-Some.count told in
     let end = simp to_z-of_z at c.in_err-row.ensures in
     rw (p.1, p.2)
     (refuses _
@@ -72,7 +72,7 @@ returns g c =
     let number = c.in_ok-first.ensures in
     let first : SFits w64 c.in_ok-first.first = search rules in
     let told = simp to_z-of_z at (sym c.row_length.ensures ∙ c.in-Some.is) in
-    let many = g.met.W.Written.few _ c.in-Some.count told in
+    let many = g.met.W.Recorded.few _ c.in-Some.count told in
     let end = simp to_z-of_z at c.in_ok-row.ensures in
     makes _
     (row_told _ _ _ (call_made refl word) (call_made word.keeps space) (call_made (space.keeps ∙ word.keeps) number)
