@@ -1,7 +1,7 @@
 // What an arc of the network charges for its load.
 //
 // `numbers` has the limits of every number that is handed over, `refusals` what a refused call answers, `costs` the
-// trait that every kind of cost keeps, `written` the trait of those kinds that stand in a text as a row of numbers.
+// trait that every kind of cost keeps, `written` the traits of those kinds that stand in a text as a row of numbers.
 // `laws` states what follows from these. Each kind of cost has a crate of its own.
 
 #![tactic(auto)]

@@ -88,7 +88,7 @@ pub trait Written: Cost {
     ghost told: { (c : Self) → long (slice_index_or (row c) 0 (pos 0)) ≡ Some (length (row c)) };
 }
 
-// A written kind whose letter and rows fit the lines of a record.
+// A written kind whose contents mean what their rows mean, and whose letter and rows fit the lines of a record.
 pub trait Recorded: Written {
     // A content means what its row means.
     ghost meant: { (c : Self) → Self.Cost.meaning c ≡ Self.Written.means (Self.Written.row c) };

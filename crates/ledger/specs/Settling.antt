@@ -92,7 +92,7 @@ Feasible net = (load : ℕ → ℤ) × Meets net load
 abbrev pub EqualWhenBest : Net → Type 0
 EqualWhenBest net = (load price : ℕ → ℤ) → Meets net load → (charge net load ≡ floor net price) ↔ (Cheapest net load × Highest net price)
 
--- What settling answers for a network: beforehand a refusal; else equal amounts, the charge of a routing that meets it and the floor of some prices; or how many nodes of an over_full set are marked.
+-- What settling answers for a network: beforehand a refusal; else equal amounts, the charge of a routing that meets it and the floor of some prices; or how many nodes of an over-full set are marked.
 abbrev pub Answers : Option SheetFault → Net → Result Amounts SheetFault → Type 0
 Answers (Some f) net r = r ≡ Err f
 Answers None net (Ok amounts) =

@@ -99,7 +99,7 @@ brief_empty =
     let zero_fits : Between (negsuc 999999999) (pos 1000000000) (pos 0) = (omega (arith, ints), omega (arith, ints)) in
     brief_more (pos 0) (pos 0 ∷ pos 0 ∷ []) zero_fits (brief_more (pos 0) (pos 0 ∷ []) zero_fits (brief_more (pos 0) [] zero_fits brief_none))
 
--- a row has from 3 to 19 numbers
+-- a row has from 1 to 19 numbers
 pub long_tells : (x : ℤ) (n : ℕ) → stepped_length x ≡ Some n → (1 ≤ n) × (n ≤ 19)
 long_tells (negsuc k) n e = absurd (let z : ◌≡◌ {A = ℕ} 0 1 = cc in omega arith)
 long_tells (pos k) n e = go (within count_limits (pos k)) refl

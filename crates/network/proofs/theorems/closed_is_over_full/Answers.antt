@@ -1,4 +1,4 @@
--- `closed_is_over_full` asserts `closed_is_over_full`.
+-- The lemma of the same name.
 use Rattle.network.proofs.Cuts.{closed_is_over_full}
 use Rattle.network.proofs.theorems.closed_is_over_full.Goals as goal
 

@@ -1,4 +1,4 @@
--- `equal_exactly_when_best` asserts `equal_exactly_when_best`.
+-- The lemma of the same name.
 use Rattle.network.proofs.Duality.{equal_exactly_when_best}
 use Rattle.network.proofs.theorems.equal_exactly_when_best.Goals as goal
 

@@ -1,4 +1,4 @@
--- `equal_is_best` asserts `equal_is_best`.
+-- The lemma of the same name.
 use Rattle.network.proofs.Duality.{equal_is_best}
 use Rattle.network.proofs.theorems.equal_is_best.Goals as goal
 

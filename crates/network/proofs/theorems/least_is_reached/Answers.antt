@@ -1,4 +1,4 @@
--- `least_is_reached` asserts `least_is_reached`.
+-- The lemma of the same name.
 use Rattle.network.proofs.Least.{least_is_reached}
 use Rattle.network.proofs.theorems.least_is_reached.Goals as goal
 

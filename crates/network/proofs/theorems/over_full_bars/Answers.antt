@@ -1,4 +1,4 @@
--- `over_full_bars` asserts `over_full_bars`.
+-- The lemma of the same name.
 use Rattle.network.proofs.Cuts.{over_full_bars}
 use Rattle.network.proofs.theorems.over_full_bars.Goals as goal
 
