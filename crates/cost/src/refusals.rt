@@ -1,9 +1,11 @@
 // What a refused call answers: a fault of its own, and from it the number, the place and the layer.
-ghost use Rattle.std.specs.Prelude.{◌≡◌};
-ghost use Rattle.cost.specs.Refusals.{cost_refusal};
+ghost use Rattle.std.specs.Prelude.{◌≡◌, ◌++◌, Some, codes};
+ghost use Rattle.cost.specs.Refusals.{cost_refusal, layer_word, refusal_text};
 ghost use Rattle.cost.specs.declared.refusals.CostFault.TheVariants.{Number};
 
 use crate::numbers::NumberFault;
+use std::error::Error;
+use std::fmt;
 
 // Where a refusal was made.
 #[derive(Clone, Copy, Debug, PartialEq, Eq)]
@@ -14,12 +16,35 @@ pub enum Layer {
     Record,
 }
 
+impl fmt::Display for Layer {
+    ghost output = { λ layer. Some (layer_word layer) };
+
+    // Writes the layer in one word.
+    fn fmt<W: fmt::Write>(&self, f: &mut fmt::Formatter<W>) -> fmt::Result {
+        f.write_str(match self {
+            Layer::Cost => "cost",
+            Layer::Draft => "draft",
+            Layer::Sheet => "sheet",
+            Layer::Record => "record",
+        })
+    }
+}
+
 // A refusal as it is reported: its number in the table of refusals, the place that it names, its layer.
 #[derive(Clone, Copy, Debug, PartialEq, Eq)]
 pub struct Refusal {
     pub number: usize,
     pub place: usize,
     pub layer: Layer,
+}
+
+impl fmt::Display for Refusal {
+    ghost output = { λ refusal. Some (refusal_text refusal) };
+
+    // Writes the number, the place and the layer, parted by spaces.
+    fn fmt<W: fmt::Write>(&self, f: &mut fmt::Formatter<W>) -> fmt::Result {
+        write!(f, "{} {} {}", self.number, self.place, self.layer)
+    }
 }
 
 // Why a cost is not made.
@@ -40,11 +65,12 @@ impl From<NumberFault> for CostFault {
     }
 }
 
-impl CostFault {
-    pub fn refusal(self) -> Refusal
-        ensures { result ≡ cost_refusal self }
-    {
-        let (number, place) = match self {
+impl From<CostFault> for Refusal {
+    ghost from_gives = { λ fault r. r ≡ cost_refusal fault };
+
+    // Reports a fault of a cost by its number, its place and the layer of costs.
+    fn from(fault: CostFault) -> Refusal {
+        let (number, place) = match fault {
             CostFault::Pieces => (1, 0),
             CostFault::Number(NumberFault::Outside(position)) => (3, position),
             CostFault::Long(piece) => (4, piece),
@@ -56,5 +82,25 @@ impl CostFault {
             place,
             layer: Layer::Cost,
         }
+    }
+}
+
+impl fmt::Display for CostFault {
+    ghost output = { λ fault. Some (codes "a cost is refused: " ++ refusal_text (cost_refusal fault)) };
+
+    // Writes the refusal, for a program that passes the fault on.
+    fn fmt<W: fmt::Write>(&self, f: &mut fmt::Formatter<W>) -> fmt::Result {
+        write!(f, "a cost is refused: {}", Refusal::from(*self))
+    }
+}
+
+impl Error for CostFault {}
+
+impl CostFault {
+    // The refusal that this fault is reported as.
+    pub fn refusal(self) -> Refusal
+        ensures { result ≡ cost_refusal self }
+    {
+        Refusal::from(self)
     }
 }
