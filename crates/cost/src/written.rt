@@ -48,10 +48,12 @@ impl Row {
     }
 }
 
-// A kind that stands in a text says by `sign` its letter, by `long` how many numbers a row has that begins with a number, by `refuses` why a row
+// A kind that stands in a text says by `LETTER` its letter, by `long` how many numbers a row has that begins with a number, by `refuses` why a row
 // makes no cost, by `means` what a row means that is not refused, and by `row` the row of any content.
 pub trait Written: Cost {
     const LETTER: char;
+
+    ghost LETTER: { ℕ };
 
     ghost sign: { ℕ };
 
@@ -100,5 +102,7 @@ pub trait Recorded: Written {
     ghost few: { (first : ℤ) (n : ℕ) → Self.Written.long first ≡ Some n → (1 ≤ n) × (n ≤ 19) };
 
     // The letter is visible and one byte long.
+    ghost legible: { (32 < Self.Written.LETTER) × (Self.Written.LETTER < 127) };
+
     ghost visible: { (32 < Self.Written.sign) × (Self.Written.sign < 127) };
 }

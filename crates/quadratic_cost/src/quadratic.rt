@@ -105,6 +105,8 @@ impl Cost for Quadratic {
 impl Written for Quadratic {
     const LETTER: char = 'Q';
 
+    ghost LETTER = { 81 };
+
     ghost sign = { 81 };
 
     ghost long = { quadratic_length };
@@ -149,6 +151,8 @@ impl Recorded for Quadratic {
     ghost brief = { λ q. brief_row q };
 
     ghost few = { Prim.search rules };
+
+    ghost legible = { Prim.search rules };
 
     ghost visible = { Prim.search rules };
 }

@@ -257,6 +257,8 @@ impl Cost for Stepped {
 impl Written for Stepped {
     const LETTER: char = 'S';
 
+    ghost LETTER = { 83 };
+
     ghost sign = { 83 };
 
     ghost long = { stepped_length };
@@ -308,6 +310,8 @@ impl Recorded for Stepped {
     ghost brief = { λ c. (honest c).brief };
 
     ghost few = { λ first n told. long_tells first n told };
+
+    ghost legible = { Prim.search rules };
 
     ghost visible = { Prim.search rules };
 }
