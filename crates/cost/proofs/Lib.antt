@@ -2,5 +2,4 @@ pub mod Amount
 pub mod FirstPlace
 pub mod Lists
 pub mod Refusing
-pub mod Room
 pub mod Brief

@@ -21,12 +21,6 @@ take_within n k xs e =
     (λ low. ap (λ (j : ℕ). take j xs) (omega arith))
     (λ high. take_all (min n k) xs (omega arith) ∙ sym (take_all n xs (omega arith)))
 
--- a front of a front with more behind it
-pub take_front : {X : Type 0} (n : ℕ) (xs ys : List X) → take n (take n xs ++ ys) ≡ take n (xs ++ ys)
-take_front {X} zero xs ys = refl
-take_front {X} (suc n) [] ys = refl
-take_front {X} (suc n) (x ∷ xs) ys = ap (λ (zs : List X). x ∷ zs) (take_front n xs ys)
-
 -- a count of a whole number, for `omega`
 pub natural_is : (z : ℤ) → natural z ≡ up z - down z
 natural_is (pos n) = omega arith

@@ -7,44 +7,41 @@ ghost use Rattle.cost.specs.declared.refusals.CostFault.{CostFault as Fault};
 
 use crate::costs::Cost;
 use crate::refusals::CostFault;
+use arrayvec::ArrayVec;
 
 pub const MOST_NUMBERS: usize = 19;
 
-// A row of numbers, of which the first `count` count.
-#[derive(Clone, Copy, Debug, PartialEq, Eq)]
+// A row of at most nineteen numbers.
+#[derive(Debug, Drop, PartialEq, Eq)]
 pub struct Row {
-    pub count: usize,
-    pub numbers: [i64; MOST_NUMBERS],
+    numbers: ArrayVec<i64, MOST_NUMBERS>,
 }
 
 impl Row {
+    // A row with no number yet.
     pub fn empty() -> Row
         ensures { numbers_of result ≡ [] }
     {
         Row {
-            count: 0,
-            numbers: [0; MOST_NUMBERS],
+            numbers: ArrayVec::new(),
         }
     }
 
-    // The numbers that count.
+    // The numbers in their order.
     pub fn as_slice(&self) -> &[i64]
         ensures { result.now ≡ numbers_of self.now }
     {
-        let count = self.count.min(MOST_NUMBERS);
-        &self.numbers[0..count]
+        self.numbers.as_slice()
     }
 
     // The numbers of a list more, as far as a row of nineteen has room for them.
     pub fn extend(&mut self, numbers: &[i64])
         ensures { numbers_of self.new ≡ take 19 (numbers_of self.old ++ numbers.now) }
     {
-        for number in numbers {
-            if self.count < MOST_NUMBERS {
-                self.numbers[self.count] = *number;
-                self.count += 1;
-            }
-        }
+        let room = self.numbers.remaining_capacity().min(numbers.len());
+        self.numbers
+            .try_extend_from_slice(&numbers[..room])
+            .unwrap();
     }
 }
 
