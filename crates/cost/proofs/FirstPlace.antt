@@ -1,5 +1,8 @@
 -- The first place at which a test passes: it passes there and nowhere before, and no place is given where it passes nowhere.
-use Rattle.std.proofs.Common.{◌≡◌, ℕ, zero, suc, ◌+◌, ◌<◌, ◌≤◌, Bool, true, false, Some, None, Option, sym, refl, ap, subst, arith, MatchOption}
+use Rattle.std.proofs.Common.{◌≡◌, ℕ, zero, suc, ◌+◌, ◌<◌, ◌≤◌, Bool, true, false, cond, List, [], ◌∷◌, length, get_or, Some, None, Option, sym, refl, ap, ◌∙◌, subst, arith, MatchOption}
+use Rattle.std.specs.List.{position, position_from}
+use Rattle.std.specs.Option.{option_map}
+use Rattle.std.proofs.lemmas.Iterator.Adapters.{position_from-zero}
 use native.Mathlib.Decide.{ℕ_discrete}
 use Rattle.cost.specs.Places.{first_place_from, first_place, FirstPlaceIsFirst}
 
@@ -62,6 +65,28 @@ module _ (test : ℕ → Bool) where
   -- where no place was found, the test passes nowhere
   pub first_place_never : (n : ℕ) → first_place test n ≡ None → (j : ℕ) → j < n → test j ≡ false
   first_place_never n e j h = never_from 0 n e j (omega arith) (omega arith)
+
+-- a place is found by the index at which a list first passes, where the list tells the test from index k on
+module _ {X : Type 0} (passes : X → Bool) (other : X) (test : ℕ → Bool) (k : ℕ) where
+  place_from_position : (i : ℕ) (xs : List X) → ((j : ℕ) → j < length xs → test (i + j + k) ≡ passes (get_or xs j other))
+      → option_map (λ n. n + (k + 1)) (position_from passes i xs) ≡ first_place_from test (i + k) (length xs)
+  place_from_position i [] same = refl
+  place_from_position i (x ∷ xs) same =
+      let more : i + 1 + k ≡ i + k + 1 = omega arith in
+      go (passes x) refl (ap test (omega arith) ∙ same 0 (omega arith))
+      (place_from_position (i + 1) xs (λ j h. ap test (omega arith) ∙ same (suc j) (omega arith)) ∙ ap (λ (n : ℕ). first_place_from test n (length xs)) more)
+    where
+      go : (b : Bool) → passes x ≡ b → test (i + k) ≡ passes x → option_map (λ n. n + (k + 1)) (position_from passes (i + 1) xs) ≡ first_place_from test (i + k + 1) (length xs)
+          → option_map (λ n. n + (k + 1)) (cond (passes x) (Some i) (position_from passes (i + 1) xs)) ≡ cond (test (i + k)) (Some (i + k + 1)) (first_place_from test (i + k + 1) (length xs))
+      go true e here later = rw (here, e) (ap Some (omega arith))
+      go false e here later = rw (here, e) later
+
+  pub place_of_position : (xs : List X) → ((j : ℕ) → j < length xs → test (j + k) ≡ passes (get_or xs j other))
+      → option_map (λ n. n + (k + 1)) (position passes xs) ≡ first_place_from test k (length xs)
+  place_of_position xs same =
+      ap (option_map (λ n. n + (k + 1))) (position_from-zero passes xs)
+      ∙ place_from_position 0 xs (λ j h. ap test (omega arith) ∙ same j h)
+      ∙ ap (λ (n : ℕ). first_place_from test n (length xs)) (omega arith)
 
 pub first_place_is_first : FirstPlaceIsFirst
 first_place_is_first test n = go (first_place test n) refl

@@ -1,5 +1,5 @@
 // Numbers that are handed over, and the limits within which they must lie.
-ghost use Rattle.std.specs.Prelude.{◌≡◌};
+ghost use Rattle.std.specs.Prelude.{◌≡◌, not, position};
 ghost use Rattle.cost.specs.Limits.{within, outside, first_outside};
 ghost use Rattle.std.specs.Result.{result_err};
 
@@ -62,15 +62,17 @@ impl Limits {
         }
     }
 
+    // The index of the first number of a list outside the limits.
+    fn position_outside(self, numbers: &[i64]) -> Option<usize>
+        ensures { result ≡ position (λ x. not (within self x)) numbers.now }
+    {
+        numbers.iter().position(|number| !self.contain(*number))
+    }
+
     // The place, from 1, of the first number of a list outside the limits.
     pub fn first_outside(self, numbers: &[i64]) -> Option<usize>
         ensures { result ≡ first_outside self numbers.now }
     {
-        for (k, number) in numbers.iter().enumerate() {
-            if !self.contain(*number) {
-                return Some(k + 1);
-            }
-        }
-        None
+        self.position_outside(numbers).map(|index| index + 1)
     }
 }

@@ -1,18 +1,13 @@
-use Rattle.std.proofs.Common.{◌≡◌, false, not, length, get_or, pos, sym, ap, arith, rules}
+use Rattle.std.proofs.Common.{◌≡◌, ◌+◌, not, get_or, pos, ap, ◌∙◌, arith, rules}
+use Rattle.std.specs.Option.{option_map}
 use Rattle.cost.specs.Limits.{within}
-use Rattle.cost.proofs.FirstPlace.{first_place_none, first_place_found}
+use Rattle.cost.proofs.FirstPlace.{place_of_position}
 use Rattle.cost.proofs.numbers.Limits.first_outside.Goals as goal
 
--- src/numbers.rt:52:17
-pub returns-then-not-contain : goal.returns-then-not-contain
-returns-then-not-contain c =
-    let xs = c.args.numbers.now in
-    let here : within c.args.self (get_or xs c.loop-k.k (pos 0)) ≡ false = search rules in
-    sym (first_place_found (λ k. not (within c.args.self (get_or xs k (pos 0)))) (length xs) c.loop-k.k
-    (omega arith) (λ j h. ap not (c.loop-k.invariant j h)) (ap not here))
-
--- src/numbers.rt:47:5
 pub returns : goal.returns
 returns c =
     let xs = c.args.numbers.now in
-    sym (first_place_none (λ k. not (within c.args.self (get_or xs k (pos 0)))) (length xs) (λ j h. ap not (c.loop-k.invariant j (omega arith))))
+    let more : c.map.result ≡ option_map (λ i. i + 1) c.position_outside.result = search rules in
+    more
+    ∙ ap (option_map (λ i. i + 1)) c.position_outside.ensures
+    ∙ place_of_position (λ x. not (within c.args.self x)) (pos 0) (λ k. not (within c.args.self (get_or xs k (pos 0)))) 0 xs (λ j h. ap (λ k. not (within c.args.self (get_or xs k (pos 0)))) (omega arith))
