@@ -1,6 +1,6 @@
 // The stepped cost: pieces of so many requests each, at one increment a piece.
-ghost use Rattle.std.specs.Prelude.{◌≡◌, ◌+◌, ◌^◌, ◌<◌, ◌≤◌, true, false, not, length, pos, ◌≤ℤ◌, is_some, IfOk, if◌then◌else◌, Some, None, slice_index_or};
-ghost use Rattle.std.specs.List.{slice_get};
+ghost use Rattle.std.specs.Prelude.{◌≡◌, ◌+◌, ◌^◌, ◌<◌, ◌≤◌, drop, int_lt, position, true, false, not, length, pos, ◌≤ℤ◌, is_some, IfOk, if◌then◌else◌, Some, None, slice_index_or};
+ghost use Rattle.std.specs.List.{slice_get, zip};
 ghost use Rattle.std.specs.Option.{option_map};
 ghost use Rattle.std.specs.Result.{result_err};
 ghost use Rattle.cost.specs.Limits.{outside_each};
@@ -22,7 +22,8 @@ use cost::written::{Recorded, Row, Written};
 pub const MOST_PIECES: usize = 8;
 
 // Any content is a cost; one that `new` would refuse means the empty cost. Of the widths and slopes the first `count` count.
-#[derive(Clone, Copy, Debug, PartialEq, Eq)]
+// The numbers lie open and the arrays keep their size, since a record of a cost is plain data of which any content is a cost.
+#[derive(Clone, Copy, Debug, Default, PartialEq, Eq)]
 pub struct Stepped {
     pub first: i64,
     pub opening: i64,
@@ -49,7 +50,8 @@ fn check_numbers(
     widths: &[i64],
     slopes: &[i64],
 ) -> Result<(), NumberFault>
-    requires { (length widths.now ≤ 8) × (length slopes.now ≤ 8) }
+    requires few_widths { length widths.now ≤ 8 }
+    requires few_slopes { length slopes.now ≤ 8 }
     ensures { result_err result ≡ stepped_outside first opening widths.now slopes.now }
 {
     LOADS.check(first, 1)?;
@@ -60,7 +62,8 @@ fn check_numbers(
 
 // Refuses the first piece at which the first load and the widths pass the limit of a load.
 fn check_length(first: i64, widths: &[i64]) -> Result<(), CostFault>
-    requires { (Between (pos 0) (pos 10000) first) × (AllBetween (pos 1) (pos 10000) widths.now) }
+    requires first { Between (pos 0) (pos 10000) first }
+    requires widths { AllBetween (pos 1) (pos 10000) widths.now }
     ensures { result_err result ≡ option_map Long (first_place (too_long first widths.now) (length widths.now)) }
 {
     let mut last = first;
@@ -73,16 +76,24 @@ fn check_length(first: i64, widths: &[i64]) -> Result<(), CostFault>
     Ok(())
 }
 
+// The index of the first slope whose next one lies below it.
+fn position_of_fall(slopes: &[i64]) -> Option<usize>
+    ensures { result ≡ position (λ pair. int_lt pair.1 pair.0) (zip slopes.now (drop 1 slopes.now)) }
+{
+    slopes
+        .iter()
+        .zip(slopes.iter().skip(1))
+        .position(|(slope, next)| *next < *slope)
+}
+
 // Refuses the first piece whose slope lies below the one before.
 fn check_rising(slopes: &[i64]) -> Result<(), CostFault>
     ensures { result_err result ≡ option_map Falls (first_place (falling slopes.now) (length slopes.now)) }
 {
-    for (k, slope) in slopes.iter().enumerate() {
-        if k > 0 && *slope < slopes[k - 1] {
-            return Err(CostFault::Falls(k + 1));
-        }
+    match position_of_fall(slopes) {
+        Some(index) => Err(CostFault::Falls(index + 2)),
+        None => Ok(()),
     }
-    Ok(())
 }
 
 // Numbers in an array of eight, with 0 behind them.
@@ -91,33 +102,30 @@ fn padded_to_eight(numbers: &[i64]) -> [i64; MOST_PIECES]
     ensures { result ≡ padded numbers.now }
 {
     let mut row = [0; MOST_PIECES];
-    for (k, number) in numbers.iter().enumerate() {
-        row[k] = *number;
-    }
+    row[..numbers.len()].copy_from_slice(numbers);
     row
 }
 
 // The sum of the widths.
 fn sum_of(widths: &[i64]) -> i64
-    requires { (length widths.now ≤ 8) × (AllBetween (pos 1) (pos 10000) widths.now) }
+    requires few { length widths.now ≤ 8 }
+    requires within { AllBetween (pos 1) (pos 10000) widths.now }
     ensures { result ≡ total widths.now }
 {
-    let mut sum = 0;
-    for width in widths {
-        sum += *width;
-    }
-    sum
+    widths.iter().sum()
 }
 
 // The increment after `beyond` requests: the slope of the piece in which it lies.
 fn slope_at(widths: &[i64], slopes: &[i64], beyond: i64) -> Option<i64>
-    requires { (length widths.now ≡ length slopes.now) × ((AllBetween (pos 1) (pos 10000) widths.now) × (pos 0 ≤ℤ beyond)) }
+    requires pairs { length widths.now ≡ length slopes.now }
+    requires within { AllBetween (pos 1) (pos 10000) widths.now }
+    requires beyond { pos 0 ≤ℤ beyond }
     ensures { result ≡ slice_get (spread widths.now slopes.now) (natural beyond) }
 {
     let mut left = beyond;
-    for (k, width) in widths.iter().enumerate() {
+    for (width, slope) in widths.iter().zip(slopes) {
         if left < *width {
-            return Some(slopes[k]);
+            return Some(*slope);
         }
         left -= *width;
     }
@@ -134,13 +142,12 @@ fn pieces_fit(first: i64, widths: &[i64], slopes: &[i64]) -> bool
 {
     let mut last = first;
     let mut least = INCREMENTS.low;
-    for (k, width) in widths.iter().enumerate() {
-        let slope = slopes[k];
-        if !WIDTHS.contain(*width) || slope < least {
+    for (width, slope) in widths.iter().zip(slopes) {
+        if !WIDTHS.contain(*width) || *slope < least {
             return false;
         }
         last += *width;
-        least = slope;
+        least = *slope;
     }
     last <= LOADS.high && least <= INCREMENTS.high
 }
@@ -194,9 +201,7 @@ impl Stepped {
         ensures answer { result_err result ≡ stepped_row_refusal numbers.now }
         ensures filled { IfOk result (λ c. (stepped_row c ≡ numbers.now) × (stepped_content c ≡ stepped_row_meaning numbers.now)) }
     {
-        let Some(count) = count_of(numbers) else {
-            return Err(CostFault::Pieces);
-        };
+        let count = count_of(numbers).ok_or(CostFault::Pieces)?;
         let (widths, slopes) = numbers[3..].split_at(count);
         Stepped::new(numbers[1], numbers[2], widths, slopes)
     }

@@ -7,7 +7,7 @@ use Rattle.stepped_cost.proofs.stepped.SteppedCost.last_load.Goals as goal
 pub sum_of-requires : goal.sum_of-requires
 sum_of-requires c =
     let kept = made_keeps c.args.self.now c.if-not-is_made.ensures in
-    rw c.pieces.ensures.widths (kept.few, kept.numbers.width_limit)
+    rw c.pieces.ensures.widths (record { few = kept.few; within = kept.numbers.width_limit })
 
 pub overflow_add-result : goal.overflow_add-result
 overflow_add-result c =
