@@ -89,9 +89,8 @@ impl<C: Cost> Cost for Ceiling<C> {
 
     fn increment_at(&self, load: i64) -> Option<i64> {
         let highest = self.limit.max(INCREMENTS.low);
-        match self.below.increment_at(load) {
-            Some(increment) => Some(increment.min(highest)),
-            None => None,
-        }
+        self.below
+            .increment_at(load)
+            .map(|increment| increment.min(highest))
     }
 }
