@@ -13,48 +13,58 @@ use cost::refusals::CostFault;
 use cost::written::{Recorded, Row, Written};
 
 // Any three numbers are a content; those that `new` would refuse mean the empty cost.
-#[derive(Clone, Copy, Debug, PartialEq, Eq)]
+#[derive(Clone, Copy, Debug, Default, PartialEq, Eq)]
 pub struct Quadratic {
     pub a: i64,
     pub b: i64,
     pub c: i64,
 }
 
-// What going from `x` to the next load adds.
-fn increment(a: i64, b: i64, x: i64) -> i64
-    requires { Between (negsuc 999999) (pos 1000000) a × Between (pos 0) (pos 1000000) b × Between (pos 0) (pos 10000) x }
-    ensures { result ≡ quadratic_increment a b x }
-{
-    a + 2 * b * x
-}
-
 impl Quadratic {
     // Refuses the first of the three numbers outside its limits.
-    fn check_numbers(a: i64, b: i64, c: i64) -> Result<(), NumberFault>
-        ensures { result_err result ≡ quadratic_outside a b c }
+    fn check_numbers(self) -> Result<(), NumberFault>
+        ensures { result_err result ≡ quadratic_outside self.a self.b self.c }
     {
-        INCREMENTS.check(a, 1)?;
-        SQUARES.check(b, 2)?;
-        LOADS.check(c, 3)
+        INCREMENTS.check(self.a, 1)?;
+        SQUARES.check(self.b, 2)?;
+        LOADS.check(self.c, 3)
+    }
+
+    // What going from `load` to the next load adds.
+    fn increment(self, load: i64) -> i64
+        requires numbers { quadratic_outside self.a self.b self.c ≡ None }
+        requires load { Between (pos 0) (pos 10000) load }
+        ensures { result ≡ quadratic_increment self.a self.b load }
+    {
+        self.a + 2 * self.b * load
     }
 
     // The last increment passes the limit of an increment.
-    fn is_steep(a: i64, b: i64, c: i64) -> bool
-        requires { quadratic_outside a b c ≡ None }
-        ensures { result ≡ steep a b c }
+    fn is_steep(self) -> bool
+        requires { quadratic_outside self.a self.b self.c ≡ None }
+        ensures { result ≡ steep self.a self.b self.c }
     {
-        c >= 1 && increment(a, b, c - 1) > INCREMENTS.high
+        self.c >= 1 && self.increment(self.c - 1) > INCREMENTS.high
+    }
+
+    // Refuses what no quadratic cost is made of.
+    fn check(self) -> Result<(), CostFault>
+        ensures { result_err result ≡ quadratic_refusal self.a self.b self.c }
+    {
+        self.check_numbers()?;
+        if self.is_steep() {
+            return Err(CostFault::Steep);
+        }
+        Ok(())
     }
 
     pub fn new(a: i64, b: i64, c: i64) -> Result<Quadratic, CostFault>
         ensures answer { result ≡ unless (quadratic_refusal a b c) (record { a = a; b = b; c = c }) }
         ensures means { IfOk result (λ q. quadratic_content q ≡ quadratic_meaning a b c) }
     {
-        Quadratic::check_numbers(a, b, c)?;
-        if Quadratic::is_steep(a, b, c) {
-            return Err(CostFault::Steep);
-        }
-        Ok(Quadratic { a, b, c })
+        let made = Quadratic { a, b, c };
+        made.check()?;
+        Ok(made)
     }
 
     // The cost of a row: a, b and c.
@@ -72,7 +82,7 @@ impl Quadratic {
     fn is_made(self) -> bool
         ensures { result ≡ not (is_some (quadratic_refusal self.a self.b self.c)) }
     {
-        Quadratic::new(self.a, self.b, self.c).is_ok()
+        self.check().is_ok()
     }
 }
 
@@ -95,7 +105,7 @@ impl Cost for Quadratic {
 
     fn increment_at(&self, load: i64) -> Option<i64> {
         if self.is_made() && 0 <= load && load < self.c {
-            Some(increment(self.a, self.b, load))
+            Some(self.increment(load))
         } else {
             None
         }

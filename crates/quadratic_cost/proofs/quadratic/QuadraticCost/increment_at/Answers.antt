@@ -2,14 +2,14 @@ use Rattle.std.proofs.Common.{sym, ap, ◌∙◌, arith, rules}
 use Rattle.std.proofs.lemmas.Int.{ints}
 use Rattle.cost.specs.Meaning.{Meaning, increment_at}
 use Rattle.cost.proofs.Lists.{increment_empty}
-use Rattle.quadratic_cost.specs.Squares.{made_fits, made_increment, made_past, never_below_0, unmade}
+use Rattle.quadratic_cost.specs.Squares.{made_fits, made_within, made_increment, made_past, never_below_0, unmade}
 use Rattle.quadratic_cost.proofs.quadratic.QuadraticCost.increment_at.Goals as goal
 use Rattle.quadratic_cost.proofs.quadratic.QuadraticCost.increment_at.Goals.{else-is_made-via-then-is_made+then-load-ge0+else-load-self, else-is_made-via-then-is_made+else-load-ge0, else-is_made-via-else-is_made}
 
 pub increment-requires : goal.increment-requires
 increment-requires c =
     let fit = made_fits c.args.self.now c.if-is_made.ensures in
-    omega (arith, ints, fit.a_limit, fit.b_limit, fit.c_limit)
+    record { numbers = made_within c.args.self.now c.if-is_made.ensures; load = omega (arith, ints, fit.c_limit) }
 
 pub returns-then-load-self : goal.returns-then-load-self
 returns-then-load-self c =
