@@ -8,14 +8,15 @@ use stepped_cost::stepped::Stepped;
 #[test]
 fn each_limit_on_either_side_of_its_edge(rt: HostRuntime) -> Result<(), Fail> {
     let below = Quadratic::new(4, 3, 2)?;
-    check_answer(&rt, Cap::new(below, -1), 3, 1)?;
-    check_answer(&rt, Cap::new(below, 0), 0, 0)?;
-    check_answer(&rt, Cap::new(below, 10_000), 0, 0)?;
-    check_answer(&rt, Cap::new(below, 10_001), 3, 1)?;
-    check_answer(&rt, Ceiling::new(below, -1_000_001), 3, 1)?;
-    check_answer(&rt, Ceiling::new(below, -1_000_000), 0, 0)?;
-    check_answer(&rt, Ceiling::new(below, 1_000_000), 0, 0)?;
-    check_answer(&rt, Ceiling::new(below, 1_000_001), 3, 1)
+    check_answer(&rt, Cap::new(below, -1), Some((3, 1)));
+    check_answer(&rt, Cap::new(below, 0), None);
+    check_answer(&rt, Cap::new(below, 10_000), None);
+    check_answer(&rt, Cap::new(below, 10_001), Some((3, 1)));
+    check_answer(&rt, Ceiling::new(below, -1_000_001), Some((3, 1)));
+    check_answer(&rt, Ceiling::new(below, -1_000_000), None);
+    check_answer(&rt, Ceiling::new(below, 1_000_000), None);
+    check_answer(&rt, Ceiling::new(below, 1_000_001), Some((3, 1)));
+    Ok(())
 }
 
 #[test]

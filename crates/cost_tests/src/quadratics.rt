@@ -4,36 +4,35 @@ use quadratic_cost::quadratic::Quadratic;
 use std::test::Fail;
 
 #[test]
-fn each_refusal_on_either_side_of_its_edge(rt: HostRuntime) -> Result<(), Fail> {
-    // a, b, c and the refusal's number and place; number 0 where a cost is made
-    let cases: [(i64, i64, i64, usize, usize); 22] = [
-        (0, 0, 0, 0, 0),
-        (-1_000_000, 0, 10_000, 0, 0),
-        (-1_000_001, 0, 0, 3, 1),
-        (1_000_000, 0, 10_000, 0, 0),
-        (1_000_001, 0, 0, 3, 1),
-        (i64::MIN, i64::MIN, i64::MIN, 3, 1),
-        (0, -1, 0, 3, 2),
-        (0, 1_000_000, 1, 0, 0),
-        (0, 1_000_001, 1, 3, 2),
-        (0, i64::MAX, i64::MAX, 3, 2),
-        (0, 0, -1, 3, 3),
-        (0, 0, 10_000, 0, 0),
-        (0, 0, 10_001, 3, 3),
-        (0, 0, i64::MAX, 3, 3),
-        (0, 1_000_000, 0, 0, 0),
-        (0, 1_000_000, 2, 6, 0),
-        (0, 500_000, 2, 0, 0),
-        (1, 500_000, 2, 6, 0),
-        (-1_000_000, 1_000_000, 2, 0, 0),
-        (-1_000_000, 1_000_000, 3, 6, 0),
-        (0, 50, 10_000, 0, 0),
-        (1, 1_000_000, 10_000, 6, 0),
+fn each_refusal_on_either_side_of_its_edge(rt: HostRuntime) {
+    // a, b, c and the number and place of the refusal, if any
+    let cases: [(i64, i64, i64, Option<(usize, usize)>); 22] = [
+        (0, 0, 0, None),
+        (-1_000_000, 0, 10_000, None),
+        (-1_000_001, 0, 0, Some((3, 1))),
+        (1_000_000, 0, 10_000, None),
+        (1_000_001, 0, 0, Some((3, 1))),
+        (i64::MIN, i64::MIN, i64::MIN, Some((3, 1))),
+        (0, -1, 0, Some((3, 2))),
+        (0, 1_000_000, 1, None),
+        (0, 1_000_001, 1, Some((3, 2))),
+        (0, i64::MAX, i64::MAX, Some((3, 2))),
+        (0, 0, -1, Some((3, 3))),
+        (0, 0, 10_000, None),
+        (0, 0, 10_001, Some((3, 3))),
+        (0, 0, i64::MAX, Some((3, 3))),
+        (0, 1_000_000, 0, None),
+        (0, 1_000_000, 2, Some((6, 0))),
+        (0, 500_000, 2, None),
+        (1, 500_000, 2, Some((6, 0))),
+        (-1_000_000, 1_000_000, 2, None),
+        (-1_000_000, 1_000_000, 3, Some((6, 0))),
+        (0, 50, 10_000, None),
+        (1, 1_000_000, 10_000, Some((6, 0))),
     ];
-    for (a, b, c, number, place) in cases.iter().copied() {
-        check_answer(&rt, Quadratic::new(a, b, c), number, place)?;
+    for (a, b, c, refusal) in cases {
+        check_answer(&rt, Quadratic::new(a, b, c), refusal);
     }
-    Ok(())
 }
 
 #[test]
@@ -69,4 +68,9 @@ fn what_no_constructor_made_is_the_empty_cost(rt: HostRuntime) {
         0,
         &[],
     );
+}
+
+#[test]
+fn the_default_is_the_empty_cost(rt: HostRuntime) {
+    check_cost(&rt, &Quadratic::default(), 0, 0, &[]);
 }

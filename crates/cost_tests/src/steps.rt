@@ -3,18 +3,34 @@ use crate::checks::{check_answer, check_cost};
 use std::test::Fail;
 use stepped_cost::stepped::Stepped;
 
-// What a constructor is given, and the number and place of the refusal; number 0 where a cost is made.
-#[derive(Clone, Copy)]
+// What a constructor is given, and the number and place of the refusal, if any.
+#[derive(Drop)]
 struct Construction<'a> {
     first: i64,
     opening: i64,
     widths: &'a [i64],
     slopes: &'a [i64],
-    number: usize,
-    place: usize,
+    refusal: Option<(usize, usize)>,
 }
 
-const fn case<'a>(
+// Numbers of which a cost is made.
+const fn made<'a>(
+    first: i64,
+    opening: i64,
+    widths: &'a [i64],
+    slopes: &'a [i64],
+) -> Construction<'a> {
+    Construction {
+        first,
+        opening,
+        widths,
+        slopes,
+        refusal: None,
+    }
+}
+
+// Numbers that are refused.
+const fn refused<'a>(
     first: i64,
     opening: i64,
     widths: &'a [i64],
@@ -27,25 +43,17 @@ const fn case<'a>(
         opening,
         widths,
         slopes,
-        number,
-        place,
+        refusal: Some((number, place)),
     }
 }
 
 #[test]
-fn each_refusal_on_either_side_of_its_edge(rt: HostRuntime) -> Result<(), Fail> {
+fn each_refusal_on_either_side_of_its_edge(rt: HostRuntime) {
     let cases = [
-        case(0, 0, &[], &[], 0, 0),
-        case(0, 0, &[3], &[1, 2], 1, 0),
-        case(
-            0,
-            0,
-            &[1, 1, 1, 1, 1, 1, 1, 1],
-            &[1, 1, 1, 1, 1, 1, 1, 1],
-            0,
-            0,
-        ),
-        case(
+        made(0, 0, &[], &[]),
+        refused(0, 0, &[3], &[1, 2], 1, 0),
+        made(0, 0, &[1, 1, 1, 1, 1, 1, 1, 1], &[1, 1, 1, 1, 1, 1, 1, 1]),
+        refused(
             0,
             0,
             &[1, 1, 1, 1, 1, 1, 1, 1, 1],
@@ -53,47 +61,45 @@ fn each_refusal_on_either_side_of_its_edge(rt: HostRuntime) -> Result<(), Fail> 
             1,
             0,
         ),
-        case(-1, 0, &[], &[], 3, 1),
-        case(10_000, 0, &[], &[], 0, 0),
-        case(10_001, 0, &[], &[], 3, 1),
-        case(i64::MIN, i64::MAX, &[], &[], 3, 1),
-        case(0, -1_000_000_000, &[], &[], 0, 0),
-        case(0, -1_000_000_001, &[], &[], 3, 2),
-        case(0, 1_000_000_000, &[], &[], 0, 0),
-        case(0, 1_000_000_001, &[], &[], 3, 2),
-        case(0, i64::MIN, &[], &[], 3, 2),
-        case(0, 0, &[0], &[1], 3, 3),
-        case(0, 0, &[1], &[1], 0, 0),
-        case(0, 0, &[10_000], &[1], 0, 0),
-        case(0, 0, &[10_001], &[1], 3, 3),
-        case(0, 0, &[65_537], &[1], 3, 3),
-        case(0, 0, &[1, i64::MAX], &[1, 2], 3, 4),
-        case(0, 0, &[1, 1], &[1, i64::MAX], 3, 6),
-        case(0, 0, &[1], &[-1_000_000], 0, 0),
-        case(0, 0, &[1], &[-1_000_001], 3, 4),
-        case(0, 0, &[1], &[1_000_000], 0, 0),
-        case(0, 0, &[1], &[1_000_001], 3, 4),
-        case(9_999, 0, &[1], &[1], 0, 0),
-        case(9_999, 0, &[2], &[1], 4, 1),
-        case(9_999, 0, &[1, 1], &[1, 1], 4, 2),
-        case(0, 0, &[10_000, 10_000], &[1, 1], 4, 2),
-        case(0, 0, &[1, 1], &[4, 4], 0, 0),
-        case(0, 0, &[1, 1], &[4, 3], 5, 2),
-        case(0, 0, &[1, 1, 1], &[4, 5, -5], 5, 3),
+        refused(-1, 0, &[], &[], 3, 1),
+        made(10_000, 0, &[], &[]),
+        refused(10_001, 0, &[], &[], 3, 1),
+        refused(i64::MIN, i64::MAX, &[], &[], 3, 1),
+        made(0, -1_000_000_000, &[], &[]),
+        refused(0, -1_000_000_001, &[], &[], 3, 2),
+        made(0, 1_000_000_000, &[], &[]),
+        refused(0, 1_000_000_001, &[], &[], 3, 2),
+        refused(0, i64::MIN, &[], &[], 3, 2),
+        refused(0, 0, &[0], &[1], 3, 3),
+        made(0, 0, &[1], &[1]),
+        made(0, 0, &[10_000], &[1]),
+        refused(0, 0, &[10_001], &[1], 3, 3),
+        refused(0, 0, &[65_537], &[1], 3, 3),
+        refused(0, 0, &[1, i64::MAX], &[1, 2], 3, 4),
+        refused(0, 0, &[1, 1], &[1, i64::MAX], 3, 6),
+        made(0, 0, &[1], &[-1_000_000]),
+        refused(0, 0, &[1], &[-1_000_001], 3, 4),
+        made(0, 0, &[1], &[1_000_000]),
+        refused(0, 0, &[1], &[1_000_001], 3, 4),
+        made(9_999, 0, &[1], &[1]),
+        refused(9_999, 0, &[2], &[1], 4, 1),
+        refused(9_999, 0, &[1, 1], &[1, 1], 4, 2),
+        refused(0, 0, &[10_000, 10_000], &[1, 1], 4, 2),
+        made(0, 0, &[1, 1], &[4, 4]),
+        refused(0, 0, &[1, 1], &[4, 3], 5, 2),
+        refused(0, 0, &[1, 1, 1], &[4, 5, -5], 5, 3),
         // where two conditions hold, the upper one is given
-        case(-1, 0, &[1], &[], 1, 0),
-        case(9_999, 0, &[1, 0], &[5, 4], 3, 4),
-        case(9_999, 0, &[1, 1], &[5, 4], 4, 2),
+        refused(-1, 0, &[1], &[], 1, 0),
+        refused(9_999, 0, &[1, 0], &[5, 4], 3, 4),
+        refused(9_999, 0, &[1, 1], &[5, 4], 4, 2),
     ];
-    for c in cases.iter() {
+    for case in &cases {
         check_answer(
             &rt,
-            Stepped::new(c.first, c.opening, c.widths, c.slopes),
-            c.number,
-            c.place,
-        )?;
+            Stepped::new(case.first, case.opening, case.widths, case.slopes),
+            case.refusal,
+        );
     }
-    Ok(())
 }
 
 #[test]
@@ -142,4 +148,9 @@ fn what_no_constructor_made_is_the_empty_cost(rt: HostRuntime) -> Result<(), Fai
     };
     check_cost(&rt, &full, 0, 0, &[7, 7, 7, 7, 7, 7, 7, 7]);
     Ok(())
+}
+
+#[test]
+fn the_default_is_the_empty_cost(rt: HostRuntime) {
+    check_cost(&rt, &Stepped::default(), 0, 0, &[]);
 }
