@@ -1,25 +1,12 @@
 -- What stands at a place of a list that is cut, mapped, repeated or made by counting; and rising lists.
-use Rattle.std.proofs.Common.{◌≡◌, ℕ, zero, suc, ◌+◌, ◌-◌, ◌<◌, ◌≤◌, min, Bool, true, false, cond, List, [], ◌∷◌, ◌++◌, map, length, get_or, take, replicate, ℤ, pos, negsuc, ◌+ℤ◌, ◌≤ℤ◌, ◌<ℤ◌, Some, None, Option, sym, refl, ap, ◌∙◌, add-one, arith}
-use native.Mathlib.Decide.{dec_le}
+use Rattle.std.proofs.Common.{◌≡◌, ℕ, zero, suc, ◌+◌, ◌-◌, ◌<◌, ◌≤◌, Bool, true, false, cond, List, [], ◌∷◌, ◌++◌, map, length, get_or, take, replicate, ℤ, pos, negsuc, ◌+ℤ◌, ◌≤ℤ◌, ◌<ℤ◌, Some, None, Option, sym, refl, ap, ◌∙◌, add-one, arith}
 use lib.Signed.{le_z, le_z_yes}
 use borrow.Author.Differences.{up, down}
 use Rattle.std.specs.List.{slice_get, range_with_len}
-use Rattle.std.specs.Option.{option_map}
-use Rattle.std.proofs.lemmas.List.{take_all}
 use Rattle.std.proofs.lemmas.Option.{slice_get-get_or, slice_get_past}
 use Rattle.std.proofs.lemmas.List.FromFn.{length-map-range_with_len, get_or-map-range_with_len}
 use Rattle.std.proofs.lemmas.Int.{ints}
 use Rattle.cost.specs.Meaning.{Meaning, natural, total, beyond, last, increment_at, Lawful, empty_cost}
-
-by_le : {P : Type 0} (m n : ℕ) → (m ≤ n → P) → (n < m → P) → P
-by_le m n low high = elim (dec_le m n) [ yes p ↦ low p | no q ↦ high (omega arith) ]
-
--- a front that is cut at the length of the whole
-pub take_within : {X : Type 0} (n k : ℕ) (xs : List X) → length xs ≡ k → take (min n k) xs ≡ take n xs
-take_within n k xs e =
-    by_le n k
-    (λ low. ap (λ (j : ℕ). take j xs) (omega arith))
-    (λ high. take_all (min n k) xs (omega arith) ∙ sym (take_all n xs (omega arith)))
 
 -- a count of a whole number, for `omega`
 pub natural_is : (z : ℤ) → natural z ≡ up z - down z
@@ -31,11 +18,6 @@ nth_take zero xs k h = absurd (omega arith)
 nth_take (suc n) [] k h = refl
 nth_take (suc n) (x ∷ xs) zero h = refl
 nth_take (suc n) (x ∷ xs) (suc k) h = nth_take n xs k (omega arith)
-
-pub nth_map : {X Y : Type 0} (f : X → Y) (xs : List X) (k : ℕ) → slice_get (map f xs) k ≡ option_map f (slice_get xs k)
-nth_map f [] k = refl
-nth_map f (x ∷ xs) zero = refl
-nth_map f (x ∷ xs) (suc k) = nth_map f xs k
 
 pub nth_repeated : {X : Type 0} (n : ℕ) (x : X) (xs : List X) (k : ℕ) → k < n → slice_get (replicate n x ++ xs) k ≡ Some x
 nth_repeated zero x xs k h = absurd (omega arith)

@@ -4,6 +4,7 @@ use lib.Signed.{le_z}
 use Rattle.std.specs.Option.{option_map}
 use Rattle.std.specs.Result.{result_err}
 use Rattle.std.proofs.lemmas.Int.{ints}
+use Rattle.std.proofs.lemmas.Bool.{and_parts, not-false}
 use Rattle.cost.specs.Meaning.{Between}
 use Rattle.cost.specs.Places.{or_else, unless, kept_or}
 use Rattle.cost.specs.Limits.{within, outside, outside_each, first_outside}
@@ -36,20 +37,16 @@ both false b e = absurd (let z : ◌≡◌ {A = ℕ} 0 1 = cc in omega arith)
 
 pub between : (limits : Limits) (x : ℤ) → within limits x ≡ true → Between limits.low limits.high x
 between limits x e =
-    let h = both (le_z limits.low x) (le_z x limits.high) e in
+    let h = and_parts (le_z limits.low x) (le_z x limits.high) e in
     (omega (arith, ints, h.0), omega (arith, ints, h.1))
 
 pub inside : (limits : Limits) (position : ℕ) (x : ℤ) → outside limits position x ≡ None → Between limits.low limits.high x
 inside limits position x e = between limits x (passed (Outside position) (within limits x) e)
 
-unflip : (b : Bool) → not b ≡ false → b ≡ true
-unflip true e = refl
-unflip false e = sym e
-
 pub all_inside : (limits : Limits) (before : ℕ) (xs : List ℤ) → outside_each limits before xs ≡ None → (k : ℕ) → k < length xs → Between limits.low limits.high (get_or xs k (pos 0))
 all_inside limits before xs e k h =
     between limits (get_or xs k (pos 0))
-    (unflip (within limits (get_or xs k (pos 0)))
+    (not-false (within limits (get_or xs k (pos 0)))
     (first_place_never (λ j. not (within limits (get_or xs j (pos 0)))) (length xs) (none_below _ (first_outside limits xs) e) k h))
 
 pub not_both : (a b : Bool) → a && b ≡ false → a ≡ true → b ≡ false

@@ -5,11 +5,11 @@ use Rattle.std.specs.List.{slice_get}
 use Rattle.std.specs.Int.{int_min, int_max}
 use Rattle.std.specs.Option.{option_map}
 use Rattle.std.proofs.lemmas.List.{length-take, length-map, get_or-take, get_or-map}
-use Rattle.std.proofs.lemmas.Option.{slice_get_past}
+use Rattle.std.proofs.lemmas.Option.{slice_get_past, slice_get-map}
 use Rattle.std.proofs.lemmas.Int.{ints, clamps}
 use Rattle.cost.specs.Meaning.{Meaning, Lawful, last, natural, beyond, increment_at}
 use Rattle.layered_cost.specs.Layers.{capped, ceiled}
-use Rattle.cost.proofs.Lists.{natural_is, nth_take, nth_map}
+use Rattle.cost.proofs.Lists.{natural_is, nth_take}
 
 -- ---- cap
 
@@ -83,4 +83,4 @@ module _ (g : ℤ) (m : Meaning) where
   pub ceiled_increment : (x : ℤ) → increment_at (ceiled g m) x ≡ option_map lower (increment_at m x)
   ceiled_increment x =
       elim (int_le (pos m.first) x) as (λ b. cond b (slice_get (ceiled g m).increments (beyond m x)) None ≡ option_map lower (cond b (slice_get m.increments (beyond m x)) None))
-      [ true ↦ nth_map lower m.increments (beyond m x) | false ↦ refl ]
+      [ true ↦ slice_get-map lower m.increments (beyond m x) | false ↦ refl ]

@@ -5,6 +5,7 @@ use Rattle.std.specs.List.{slice_get}
 use Rattle.std.specs.Option.{option_map}
 use Rattle.std.proofs.lemmas.List.{length-append, length-replicate, take_all, take_at, drop_more}
 use Rattle.std.proofs.lemmas.Int.{ints}
+use Rattle.std.proofs.lemmas.Bool.{and_parts}
 use Rattle.std.proofs.lemmas.Bool.Decides.{nat_tests}
 use Rattle.cost.specs.Meaning.{Meaning, empty_cost, natural, total, Lawful, last, increment_at, Rising, Between, AllBetween}
 use Rattle.cost.specs.Places.{first_place, kept_or}
@@ -15,7 +16,7 @@ use Rattle.cost.specs.declared.refusals.CostFault.TheVariants.{Pieces, Number, L
 use Rattle.stepped_cost.specs.declared.stepped.Stepped.{Stepped}
 use Rattle.cost.proofs.FirstPlace.{first_place_never}
 use Rattle.cost.proofs.Lists.{natural_is, nth_repeated, nth_past_repeated, increment_under, increment_here, empty_lawful}
-use Rattle.cost.proofs.Refusing.{neither, none_below, passed, both, not_both, inside, all_inside, no_refusal, replaced}
+use Rattle.cost.proofs.Refusing.{neither, none_below, passed, not_both, inside, all_inside, no_refusal, replaced}
 
 -- what the numbers of a stepped cost keep that are all within their limits
 pub record Fit (first opening : ℤ) (ws ss : List ℤ) : Type 0 where
@@ -50,7 +51,7 @@ keeps first opening ws ss e =
     let two = neither (option_map Number (stepped_outside first opening ws ss)) _ one.1 in
     let three = neither (option_map Long (first_place (too_long first ws) (length ws))) (option_map Falls (first_place (falling ss) (length ss))) two.1 in
     let pair = passed Pieces (paired ws ss) one.0 in
-    let same = both (length ws == length ss) (nat_le (length ws) 8) pair in
+    let same = and_parts (length ws == length ss) (nat_le (length ws) 8) pair in
     record {
       numbers = numbers_fit first opening ws ss (none_below Number (stepped_outside first opening ws ss) two.0);
       pairs = grind (arith, nat_tests);
