@@ -1,5 +1,5 @@
 // The stepped cost: pieces of so many requests each, at one increment a piece.
-ghost use Rattle.std.specs.Prelude.{◌≡◌, ◌+◌, ◌^◌, ◌<◌, ◌≤◌, drop, int_lt, position, true, false, not, length, pos, ◌≤ℤ◌, is_some, IfOk, if◌then◌else◌, Some, None, slice_index_or};
+ghost use Rattle.std.specs.Prelude.{◌≡◌, ◌+◌, ◌^◌, ◌<◌, ◌≤◌, drop, int_lt, position, true, false, not, length, pos, ◌≤ℤ◌, is_some, IfOk, IfSome, if◌then◌else◌, Some, None, slice_index_or};
 ghost use Rattle.std.specs.List.{slice_get, zip};
 ghost use Rattle.std.specs.Option.{option_map};
 ghost use Rattle.std.specs.Result.{result_err};
@@ -8,7 +8,7 @@ ghost use Rattle.cost.specs.Meaning.{natural, total, Between, AllBetween};
 ghost use Rattle.cost.specs.Places.{first_place, unless};
 ghost use Rattle.cost.specs.Rows.{whole_row};
 ghost use Rattle.stepped_cost.specs.StepRows.{stepped_length, stepped_row, stepped_row_meaning, stepped_row_refusal};
-ghost use Rattle.stepped_cost.specs.Stepped.{falling, padded, PiecesFit, slopes_of, spread, stepped_content, stepped_meaning, stepped_of, stepped_outside, stepped_refusal, too_long, widths_of};
+ghost use Rattle.stepped_cost.specs.Stepped.{falling, padded, PiecesFit, slopes_of, spread, stepped_content, stepped_meaning, stepped_of, stepped_outside, stepped_refusal, too_long, widths_of, paired};
 ghost use Rattle.cost.specs.declared.refusals.CostFault.TheVariants.{Long, Falls};
 ghost use Rattle.stepped_cost.specs.Pieces.{content_lawful};
 ghost use Rattle.stepped_cost.specs.StepRowsLemmas.{honest, long_tells};
@@ -43,56 +43,114 @@ fn check_each(limits: Limits, numbers: &[i64], before: usize) -> Result<(), Numb
     }
 }
 
-// Refuses the first number outside its limits.
-fn check_numbers(
-    first: i64,
-    opening: i64,
-    widths: &[i64],
-    slopes: &[i64],
-) -> Result<(), NumberFault>
-    requires few_widths { length widths.now ≤ 8 }
-    requires few_slopes { length slopes.now ≤ 8 }
-    ensures { result_err result ≡ stepped_outside first opening widths.now slopes.now }
-{
-    LOADS.check(first, 1)?;
-    OPENINGS.check(opening, 2)?;
-    check_each(WIDTHS, widths, 2)?;
-    check_each(INCREMENTS, slopes, 2 + widths.len())
+// Widths and slopes side by side, as many of one as of the other and at most eight.
+#[derive(Clone, Copy)]
+struct Steps<'a> {
+    widths: &'a [i64],
+    slopes: &'a [i64],
+    ghost pairs: { length widths.now ≡ length slopes.now },
+    ghost few: { length widths.now ≤ 8 },
 }
 
-// Refuses the first piece at which the first load and the widths pass the limit of a load.
-fn check_length(first: i64, widths: &[i64]) -> Result<(), CostFault>
-    requires first { Between (pos 0) (pos 10000) first }
-    requires widths { AllBetween (pos 1) (pos 10000) widths.now }
-    ensures { result_err result ≡ option_map Long (first_place (too_long first widths.now) (length widths.now)) }
-{
-    let mut last = first;
-    for (k, width) in widths.iter().enumerate() {
-        last += *width;
-        if last > LOADS.high {
-            return Err(CostFault::Long(k + 1));
+impl<'a> Steps<'a> {
+    // Puts widths and slopes side by side; absent unless they are as many, and at most eight.
+    fn of(widths: &'a [i64], slopes: &'a [i64]) -> Option<Steps<'a>>
+        ensures absent { is_some result ≡ paired widths.now slopes.now }
+        ensures same { IfSome result (λ steps. (steps.widths.now ≡ widths.now) × (steps.slopes.now ≡ slopes.now)) }
+    {
+        if widths.len() == slopes.len() && widths.len() <= MOST_PIECES {
+            Some(Steps { widths, slopes })
+        } else {
+            None
         }
     }
-    Ok(())
-}
 
-// The index of the first slope whose next one lies below it.
-fn position_of_fall(slopes: &[i64]) -> Option<usize>
-    ensures { result ≡ position (λ pair. int_lt pair.1 pair.0) (zip slopes.now (drop 1 slopes.now)) }
-{
-    slopes
-        .iter()
-        .zip(slopes.iter().skip(1))
-        .position(|(slope, next)| *next < *slope)
-}
+    // Refuses the first number outside its limits.
+    fn check_numbers(self, first: i64, opening: i64) -> Result<(), NumberFault>
+        ensures { result_err result ≡ stepped_outside first opening self.entry.widths.now self.entry.slopes.now }
+    {
+        LOADS.check(first, 1)?;
+        OPENINGS.check(opening, 2)?;
+        check_each(WIDTHS, self.widths, 2)?;
+        check_each(INCREMENTS, self.slopes, 2 + self.widths.len())
+    }
 
-// Refuses the first piece whose slope lies below the one before.
-fn check_rising(slopes: &[i64]) -> Result<(), CostFault>
-    ensures { result_err result ≡ option_map Falls (first_place (falling slopes.now) (length slopes.now)) }
-{
-    match position_of_fall(slopes) {
-        Some(index) => Err(CostFault::Falls(index + 2)),
-        None => Ok(()),
+    // Refuses the first piece at which the first load and the widths pass the limit of a load.
+    fn check_length(self, first: i64) -> Result<(), CostFault>
+        requires first { Between (pos 0) (pos 10000) first }
+        requires widths { AllBetween (pos 1) (pos 10000) self.widths.now }
+        ensures { result_err result ≡ option_map Long (first_place (too_long first self.entry.widths.now) (length self.entry.widths.now)) }
+    {
+        let mut last = first;
+        for (k, width) in self.widths.iter().enumerate() {
+            last += *width;
+            if last > LOADS.high {
+                return Err(CostFault::Long(k + 1));
+            }
+        }
+        Ok(())
+    }
+
+    // The index of the first slope whose next one lies below it.
+    fn position_of_fall(self) -> Option<usize>
+        ensures { result ≡ position (λ pair. int_lt pair.1 pair.0) (zip self.entry.slopes.now (drop 1 self.entry.slopes.now)) }
+    {
+        self.slopes
+            .iter()
+            .zip(self.slopes.iter().skip(1))
+            .position(|(slope, next)| *next < *slope)
+    }
+
+    // Refuses the first piece whose slope lies below the one before.
+    fn check_rising(self) -> Result<(), CostFault>
+        ensures { result_err result ≡ option_map Falls (first_place (falling self.entry.slopes.now) (length self.entry.slopes.now)) }
+    {
+        match self.position_of_fall() {
+            Some(index) => Err(CostFault::Falls(index + 2)),
+            None => Ok(()),
+        }
+    }
+
+    // The sum of the widths.
+    fn width(self) -> i64
+        requires { AllBetween (pos 1) (pos 10000) self.widths.now }
+        ensures { result ≡ total self.entry.widths.now }
+    {
+        self.widths.iter().sum()
+    }
+
+    // The increment after `beyond` requests: the slope of the piece in which it lies.
+    fn slope_at(self, beyond: i64) -> Option<i64>
+        requires within { AllBetween (pos 1) (pos 10000) self.widths.now }
+        requires beyond { pos 0 ≤ℤ beyond }
+        ensures { result ≡ slice_get (spread self.entry.widths.now self.entry.slopes.now) (natural beyond) }
+    {
+        let mut left = beyond;
+        for (width, slope) in self.widths.iter().zip(self.slopes) {
+            if left < *width {
+                return Some(*slope);
+            }
+            left -= *width;
+        }
+        None
+    }
+
+    // Whether the pieces keep their laws behind a first load, in one walk over them.
+    fn fit(self, first: i64) -> bool
+        requires { Between (pos 0) (pos 10000) first }
+        ensures fit { result ≡ true → PiecesFit first self.entry.widths.now self.entry.slopes.now }
+        ensures unfit { result ≡ false → PiecesFit first self.entry.widths.now self.entry.slopes.now → ⊥ }
+    {
+        let mut last = first;
+        let mut least = INCREMENTS.low;
+        for (width, slope) in self.widths.iter().zip(self.slopes) {
+            if !WIDTHS.contain(*width) || *slope < least {
+                return false;
+            }
+            last += *width;
+            least = *slope;
+        }
+        last <= LOADS.high && least <= INCREMENTS.high
     }
 }
 
@@ -104,52 +162,6 @@ fn padded_to_eight(numbers: &[i64]) -> [i64; MOST_PIECES]
     let mut row = [0; MOST_PIECES];
     row[..numbers.len()].copy_from_slice(numbers);
     row
-}
-
-// The sum of the widths.
-fn sum_of(widths: &[i64]) -> i64
-    requires few { length widths.now ≤ 8 }
-    requires within { AllBetween (pos 1) (pos 10000) widths.now }
-    ensures { result ≡ total widths.now }
-{
-    widths.iter().sum()
-}
-
-// The increment after `beyond` requests: the slope of the piece in which it lies.
-fn slope_at(widths: &[i64], slopes: &[i64], beyond: i64) -> Option<i64>
-    requires pairs { length widths.now ≡ length slopes.now }
-    requires within { AllBetween (pos 1) (pos 10000) widths.now }
-    requires beyond { pos 0 ≤ℤ beyond }
-    ensures { result ≡ slice_get (spread widths.now slopes.now) (natural beyond) }
-{
-    let mut left = beyond;
-    for (width, slope) in widths.iter().zip(slopes) {
-        if left < *width {
-            return Some(*slope);
-        }
-        left -= *width;
-    }
-    None
-}
-
-// Whether pieces behind a first load keep their laws, in one walk over them.
-fn pieces_fit(first: i64, widths: &[i64], slopes: &[i64]) -> bool
-    requires first { Between (pos 0) (pos 10000) first }
-    requires pairs { length widths.now ≡ length slopes.now }
-    requires few { length widths.now ≤ 8 }
-    ensures fit { result ≡ true → PiecesFit first widths.now slopes.now }
-    ensures unfit { result ≡ false → PiecesFit first widths.now slopes.now → ⊥ }
-{
-    let mut last = first;
-    let mut least = INCREMENTS.low;
-    for (width, slope) in widths.iter().zip(slopes) {
-        if !WIDTHS.contain(*width) || *slope < least {
-            return false;
-        }
-        last += *width;
-        least = *slope;
-    }
-    last <= LOADS.high && least <= INCREMENTS.high
 }
 
 // The count of pieces of a row that is as long as it tells.
@@ -169,12 +181,10 @@ impl Stepped {
     fn check(first: i64, opening: i64, widths: &[i64], slopes: &[i64]) -> Result<(), CostFault>
         ensures { result_err result ≡ stepped_refusal first opening widths.now slopes.now }
     {
-        if widths.len() != slopes.len() || widths.len() > MOST_PIECES {
-            return Err(CostFault::Pieces);
-        }
-        check_numbers(first, opening, widths, slopes)?;
-        check_length(first, widths)?;
-        check_rising(slopes)
+        let steps = Steps::of(widths, slopes).ok_or(CostFault::Pieces)?;
+        steps.check_numbers(first, opening)?;
+        steps.check_length(first)?;
+        steps.check_rising()
     }
 
     pub fn new(
@@ -207,14 +217,15 @@ impl Stepped {
     }
 
     // The widths and the slopes of the pieces that count.
-    fn pieces(&self) -> (&[i64], &[i64])
-        ensures widths { result.0.now ≡ widths_of self.now }
-        ensures slopes { result.1.now ≡ slopes_of self.now }
-        ensures pairs { length result.0.now ≡ length result.1.now }
-        ensures few { length result.0.now ≤ 8 }
+    fn steps(&self) -> Steps<'_>
+        ensures widths { result.widths.now ≡ widths_of self.now }
+        ensures slopes { result.slopes.now ≡ slopes_of self.now }
     {
         let count = self.count.min(MOST_PIECES);
-        (&self.widths[0..count], &self.slopes[0..count])
+        Steps {
+            widths: &self.widths[0..count],
+            slopes: &self.slopes[0..count],
+        }
     }
 
     // The content is one that `new` makes.
@@ -224,8 +235,7 @@ impl Stepped {
         if !LOADS.contain(self.first) || !OPENINGS.contain(self.opening) {
             return false;
         }
-        let (widths, slopes) = self.pieces();
-        pieces_fit(self.first, widths, slopes)
+        self.steps().fit(self.first)
     }
 }
 
@@ -242,8 +252,7 @@ impl Cost for Stepped {
         if !self.is_made() {
             return 0;
         }
-        let (widths, _) = self.pieces();
-        self.first + sum_of(widths)
+        self.first + self.steps().width()
     }
 
     fn opening_amount(&self) -> i64 {
@@ -254,8 +263,7 @@ impl Cost for Stepped {
         if !self.is_made() || load < self.first {
             return None;
         }
-        let (widths, slopes) = self.pieces();
-        slope_at(widths, slopes, load - self.first)
+        self.steps().slope_at(load - self.first)
     }
 }
 
@@ -298,10 +306,10 @@ impl Written for Stepped {
     fn row(&self) -> Row {
         let mut row = Row::empty();
         if self.is_made() {
-            let (widths, slopes) = self.pieces();
-            row.extend(&[widths.len() as i64, self.first, self.opening]);
-            row.extend(widths);
-            row.extend(slopes);
+            let steps = self.steps();
+            row.extend(&[steps.widths.len() as i64, self.first, self.opening]);
+            row.extend(steps.widths);
+            row.extend(steps.slopes);
         } else {
             row.extend(&[0, 0, 0]);
         }

@@ -7,15 +7,15 @@ use Rattle.stepped_cost.specs.Stepped.{widths_of, slopes_of}
 use Rattle.stepped_cost.proofs.Fitting.{tells_made}
 use Rattle.stepped_cost.proofs.stepped.Stepped.is_made.Goals as goal
 
-pub pieces_fit-requires : goal.pieces_fit-requires
-pieces_fit-requires c =
-    record { first = between load_limits _ (sym c.if-not-contain.ensures); pairs = c.pieces.ensures.pairs; few = c.pieces.ensures.few }
+pub fit-requires : goal.fit-requires
+fit-requires c = between load_limits _ (sym c.if-not-contain.ensures)
 
 pub returns : goal.returns
 returns c =
     let content = c.args.self.now in
+    let steps = c.steps.result in
     let first : SFits w64 content.first = search rules in
     let opening : SFits w64 content.opening = search rules in
-    tells_made content.first content.opening c.pieces.result.0.now c.pieces.result.1.now c.pieces.ensures.pairs c.pieces.ensures.few
-    (sym (simp to_z-of_z at c.if-not-contain.ensures)) (sym (simp to_z-of_z at c.if-not-contain-2.ensures)) (widths_of content) (slopes_of content) c.pieces.ensures.widths c.pieces.ensures.slopes
-    c.pieces_fit.result (simp to_z-of_z at c.pieces_fit.ensures.fit) (simp to_z-of_z at c.pieces_fit.ensures.unfit)
+    tells_made content.first content.opening steps.widths.now steps.slopes.now steps.pairs steps.few
+    (sym (simp to_z-of_z at c.if-not-contain.ensures)) (sym (simp to_z-of_z at c.if-not-contain-2.ensures)) (widths_of content) (slopes_of content) c.steps.ensures.widths c.steps.ensures.slopes
+    c.fit.result (simp to_z-of_z at c.fit.ensures.fit) (simp to_z-of_z at c.fit.ensures.unfit)

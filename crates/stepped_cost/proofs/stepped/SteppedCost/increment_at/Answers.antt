@@ -6,7 +6,7 @@ use Rattle.stepped_cost.proofs.stepped.SteppedCost.increment_at.Goals as goal
 pub slope_at-requires : goal.slope_at-requires
 slope_at-requires c =
     let kept = made_keeps c.args.self.now c.if-not-is_made.ensures in
-    rw (c.pieces.ensures.widths, c.pieces.ensures.slopes) (record { pairs = kept.pairs; within = kept.numbers.width_limit; beyond = omega (arith, ints, kept.numbers.first_limit) })
+    rw c.steps.ensures.widths (record { within = kept.numbers.width_limit; beyond = omega (arith, ints, kept.numbers.first_limit) })
 
 pub returns : goal.returns
 returns c =

@@ -4,21 +4,21 @@ use Rattle.cost.specs.Meaning.{total}
 use Rattle.stepped_cost.specs.Pieces.{made_keeps, made_last, made_last_limit}
 use Rattle.stepped_cost.proofs.stepped.SteppedCost.last_load.Goals as goal
 
-pub sum_of-requires : goal.sum_of-requires
-sum_of-requires c =
+pub width-requires : goal.width-requires
+width-requires c =
     let kept = made_keeps c.args.self.now c.if-not-is_made.ensures in
-    rw c.pieces.ensures.widths (record { few = kept.few; within = kept.numbers.width_limit })
+    rw c.steps.ensures.widths kept.numbers.width_limit
 
 pub overflow_add-result : goal.overflow_add-result
 overflow_add-result c =
-    let sum = c.sum_of.ensures ∙ ap total c.pieces.ensures.widths in
+    let sum = c.width.ensures ∙ ap total c.steps.ensures.widths in
     let limit = made_last_limit c.args.self.now c.if-not-is_made.ensures in
     let kept = made_keeps c.args.self.now c.if-not-is_made.ensures in
     omega (arith, ints, kept.numbers.first_limit)
 
 pub returns : goal.returns
 returns c =
-    let sum = c.sum_of.ensures ∙ ap total c.pieces.ensures.widths in
+    let sum = c.width.ensures ∙ ap total c.steps.ensures.widths in
     let last = made_last c.args.self.now c.if-not-is_made.ensures in
     let limit = made_last_limit c.args.self.now c.if-not-is_made.ensures in
     let kept = made_keeps c.args.self.now c.if-not-is_made.ensures in

@@ -14,8 +14,8 @@ returns-then-is_made c =
     let opening : SFits w64 self.opening = search rules in
     let kept = made_keeps self made in
     let few = kept.few in
-    let long = ap length c.pieces.ensures.widths in
-    let count : to_z w64 (length c.pieces.result.0.now) ≡ pos (length (widths_of self)) = omega (arith, ints) in
+    let long = ap length c.steps-steps.ensures.widths in
+    let count : to_z w64 (length c.steps-steps.result.widths.now) ≡ pos (length (widths_of self)) = omega (arith, ints) in
     let front = simp to_z-of_z at c.extend.ensures in
-    let row = put_together _ _ _ _ _ _ _ _ _ _ _ _ c.empty-row.ensures front c.extend-then-is_made.ensures c.extend-then-is_made-2.ensures c.pieces.ensures.widths c.pieces.ensures.slopes count kept.few (omega (arith, kept.pairs)) in
+    let row = put_together _ _ _ _ _ _ _ _ _ _ _ _ c.empty-row.ensures front c.extend-then-is_made.ensures c.extend-then-is_made-2.ensures c.steps-steps.ensures.widths c.steps-steps.ensures.slopes count kept.few (omega (arith, kept.pairs)) in
     record { row = row ∙ sym own; means = (honest self).means }

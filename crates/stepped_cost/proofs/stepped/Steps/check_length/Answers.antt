@@ -5,11 +5,11 @@ use Rattle.stepped_cost.specs.Stepped.{too_long}
 use Rattle.cost.specs.declared.refusals.CostFault.TheVariants.{Long}
 use Rattle.cost.proofs.FirstPlace.{first_place_none, first_place_found}
 use Rattle.cost.proofs.Lists.{total_more}
-use Rattle.stepped_cost.proofs.stepped.check_length.Goals as goal
+use Rattle.stepped_cost.proofs.stepped.Steps.check_length.Goals as goal
 
 pub returns-then-last : goal.returns-then-last
 returns-then-last c =
-    let ws = c.args.widths.now in
+    let ws = c.args.self.widths.now in
     let k = c.loop-k.k in
     let within' = c.loop-k-test.true in
     let limits = c.requires.widths k within' in
@@ -21,7 +21,7 @@ returns-then-last c =
 
 pub loop-k-preserved : goal.loop-k-preserved
 loop-k-preserved c =
-    let ws = c.args.widths.now in
+    let ws = c.args.self.widths.now in
     let k = c.loop-k.k in
     let within' = c.loop-k-test.true in
     let limits = c.requires.widths k within' in
@@ -31,7 +31,7 @@ loop-k-preserved c =
 
 pub returns : goal.returns
 returns c =
-    let ws = c.args.widths.now in
+    let ws = c.args.self.widths.now in
     let first = c.ranges.first in
     let before = simp to_z-of_z at c.loop-k.invariant.2 in
     ap (option_map Long) (sym (first_place_none (too_long c.args.first ws) (length ws) (λ j h. before j (omega arith))))
