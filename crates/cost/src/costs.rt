@@ -26,7 +26,7 @@ pub trait Cost {
 pub fn in_range<C: Cost>(cost: &C, load: i64) -> bool
     ensures { result ≡ in_range (C.Cost.meaning cost.now) load }
 {
-    cost.first_load() <= load && load <= cost.last_load()
+    (cost.first_load()..=cost.last_load()).contains(&load)
 }
 
 // The amount at a load; absent outside the range.

@@ -48,7 +48,7 @@ impl Limits {
     pub fn contain(self, number: i64) -> bool
         ensures { result ≡ within self number }
     {
-        self.low <= number && number <= self.high
+        (self.low..=self.high).contains(&number)
     }
 
     // Refuses a number outside the limits.
