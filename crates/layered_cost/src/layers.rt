@@ -55,6 +55,7 @@ impl<C: Cost> Cost for Cap<C> {
 }
 
 // A cost whose increments are at most `limit`; a limit below the lowest increment counts as that increment.
+// It has the fields of a cap and is a type of its own: the two share no more than calls that pass on to the cost below.
 #[derive(Clone, Copy, Debug, PartialEq, Eq)]
 pub struct Ceiling<C> {
     pub below: C,
