@@ -52,8 +52,6 @@ pub trait Written: Cost {
 
     ghost LETTER: { ℕ };
 
-    ghost sign: { ℕ };
-
     ghost long: { ℤ → Option ℕ };
 
     ghost refuses: { List ℤ → Option Fault };
@@ -61,10 +59,6 @@ pub trait Written: Cost {
     ghost means: { List ℤ → Meaning };
 
     ghost row: { Self → List ℤ };
-
-    // The letter, for code that is generic in the kind.
-    fn sign() -> char
-        ensures { result ≡ sign };
 
     // How many numbers a row has that begins with `first`; absent where no row begins so.
     fn row_length(first: i64) -> Option<usize>
@@ -100,6 +94,4 @@ pub trait Recorded: Written {
 
     // The letter is visible and one byte long.
     ghost legible: { (32 < Self.Written.LETTER) × (Self.Written.LETTER < 127) };
-
-    ghost visible: { (32 < Self.Written.sign) × (Self.Written.sign < 127) };
 }

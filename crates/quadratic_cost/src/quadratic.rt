@@ -117,8 +117,6 @@ impl Written for Quadratic {
 
     ghost LETTER = { 81 };
 
-    ghost sign = { 81 };
-
     ghost long = { quadratic_length };
 
     ghost refuses = { quadratic_row_refusal };
@@ -130,10 +128,6 @@ impl Written for Quadratic {
     ghost accepted = { Prim.search rules };
 
     ghost told = { Prim.search rules };
-
-    fn sign() -> char {
-        Self::LETTER
-    }
 
     fn row_length(_first: i64) -> Option<usize> {
         Some(3)
@@ -163,6 +157,4 @@ impl Recorded for Quadratic {
     ghost few = { Prim.search rules };
 
     ghost legible = { Prim.search rules };
-
-    ghost visible = { Prim.search rules };
 }

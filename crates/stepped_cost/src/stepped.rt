@@ -272,8 +272,6 @@ impl Written for Stepped {
 
     ghost LETTER = { 83 };
 
-    ghost sign = { 83 };
-
     ghost long = { stepped_length };
 
     ghost refuses = { stepped_row_refusal };
@@ -285,10 +283,6 @@ impl Written for Stepped {
     ghost accepted = { λ c. (honest c).accepted };
 
     ghost told = { λ c. (honest c).long };
-
-    fn sign() -> char {
-        Self::LETTER
-    }
 
     fn row_length(first: i64) -> Option<usize> {
         if COUNTS.contain(first) {
@@ -325,6 +319,4 @@ impl Recorded for Stepped {
     ghost few = { λ first n told. long_tells first n told };
 
     ghost legible = { Prim.search rules };
-
-    ghost visible = { Prim.search rules };
 }
