@@ -95,12 +95,3 @@ impl fmt::Display for CostFault {
 }
 
 impl Error for CostFault {}
-
-impl CostFault {
-    // The refusal that this fault is reported as.
-    pub fn refusal(self) -> Refusal
-        ensures { result ≡ cost_refusal self }
-    {
-        Refusal::from(self)
-    }
-}
