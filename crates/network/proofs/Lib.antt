@@ -12,3 +12,4 @@ pub mod Costs
 pub mod Walk
 pub mod Floors
 pub mod Nets
+pub mod Graphs

@@ -2,3 +2,4 @@ pub mod Sums
 pub mod Network
 pub mod Records
 pub mod Theorems
+pub mod Graphs

@@ -9,6 +9,7 @@
 
 pub mod charge;
 pub mod floor;
+pub mod graph;
 pub mod records;
 pub mod routing;
 pub mod theorems;
