@@ -12,4 +12,6 @@ pub mod meet;
 pub mod near;
 mod push;
 pub mod reach;
+pub mod sets;
+pub mod spans;
 mod surpluses;

@@ -1,4 +1,10 @@
-// The records that a network is kept in.
+// The records that a network is kept in, and how many of them there may be.
+
+// A network has at most so many nodes.
+pub const MOST_NODES: usize = 64;
+
+// A network has at most so many arcs.
+pub const MOST_ARCS: usize = 256;
 
 // What is known of a node; a mark says that it belongs to the set that bars every routing.
 #[derive(Clone, Copy, Debug, PartialEq, Eq)]
