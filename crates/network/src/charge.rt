@@ -12,8 +12,8 @@ pub fn charge_of<C: Cost>(costs: &[C], loads: &[i64]) -> i64
     ensures { result ≡ amounts (map C.Cost.meaning costs.now) loads.now }
 {
     let mut charge = 0;
-    for (a, cost) in costs.iter().enumerate() {
-        charge += amount_at(cost, loads[a]).unwrap();
+    for (cost, load) in costs.iter().zip(loads) {
+        charge += amount_at(cost, *load).unwrap();
     }
     charge
 }

@@ -2,9 +2,11 @@
 ghost use Rattle.std.specs.Prelude.{◌≡◌, ◌<◌, map, length, pos, negsuc, ◌-ℤ◌, ◌*ℤ◌, ◌≤ℤ◌};
 ghost use Rattle.cost.specs.Meaning.{Between};
 ghost use Rattle.network.specs.Network.{Meets, charge, least, floor};
+ghost use Rattle.network.specs.Graphs.{net_in};
 ghost use Rattle.network.specs.Records.{net_of, numbers, Sound, Within, Ranged};
 
 use crate::charge::charge_of;
+use crate::graph::Graph;
 use crate::records::{Arc, Node};
 use cost::costs::Cost;
 
@@ -49,7 +51,47 @@ impl Arc {
     }
 }
 
-// The supplies times their prices, and the least reduced amounts of the arcs at their tensions, summed.
+impl Graph<'_> {
+    // The supplies times their prices, and the least reduced amounts of the arcs at their tensions, summed.
+    pub fn floor_of<C: Cost>(&self, costs: &[C], prices: &[i64]) -> i64
+        requires costed { length costs.now ≡ length self.now.arcs.now }
+        requires priced { length prices.now ≡ length self.now.nodes.now }
+        requires limits { Within 100000000 prices.now }
+        ensures { result ≡ floor (net_in self.now (map C.Cost.meaning costs.now)) (numbers prices.now) }
+    {
+        let mut floor = 0;
+        for (node, price) in self.nodes.iter().zip(prices) {
+            floor += node.worth(*price);
+        }
+        for (arc, cost) in self.arcs.iter().zip(costs) {
+            floor += least_of(cost, arc.tension(prices));
+        }
+        floor
+    }
+
+    // The floor of the prices and the charge of the loads. Where the loads meet the network, the floor is at most the charge.
+    pub fn floor_and_charge<C: Cost>(
+        &self,
+        costs: &[C],
+        loads: &[i64],
+        prices: &[i64],
+    ) -> (i64, i64)
+        requires costed { length costs.now ≡ length self.now.arcs.now }
+        requires loaded { length loads.now ≡ length self.now.arcs.now }
+        requires ranges { Ranged (map C.Cost.meaning costs.now) loads.now }
+        requires priced { length prices.now ≡ length self.now.nodes.now }
+        requires limits { Within 100000000 prices.now }
+        ensures promised { result.0 ≡ floor (net_in self.now (map C.Cost.meaning costs.now)) (numbers prices.now) }
+        ensures charged { result.1 ≡ charge (net_in self.now (map C.Cost.meaning costs.now)) (numbers loads.now) }
+        ensures duality { Meets (net_in self.now (map C.Cost.meaning costs.now)) (numbers loads.now) → result.0 ≤ℤ result.1 }
+    {
+        let floor = self.floor_of(costs, prices);
+        let charge = charge_of(costs, loads);
+        (floor, charge)
+    }
+}
+
+// The floor of prices, of nodes and arcs lent one by one.
 pub fn floor_of<C: Cost>(nodes: &[Node], arcs: &[Arc], costs: &[C], prices: &[i64]) -> i64
     requires sound { Sound nodes.now arcs.now }
     requires costed { length costs.now ≡ length arcs.now }
@@ -57,17 +99,10 @@ pub fn floor_of<C: Cost>(nodes: &[Node], arcs: &[Arc], costs: &[C], prices: &[i6
     requires limits { Within 100000000 prices.now }
     ensures { result ≡ floor (net_of nodes.now arcs.now (map C.Cost.meaning costs.now)) (numbers prices.now) }
 {
-    let mut floor = 0;
-    for (v, node) in nodes.iter().enumerate() {
-        floor += node.worth(prices[v]);
-    }
-    for (a, cost) in costs.iter().enumerate() {
-        floor += least_of(cost, arcs[a].tension(prices));
-    }
-    floor
+    Graph::of(nodes, arcs).floor_of(costs, prices)
 }
 
-// The floor of the prices and the charge of the loads. Where the loads meet the network, the floor is at most the charge.
+// The floor and the charge, of nodes and arcs lent one by one.
 pub fn floor_and_charge<C: Cost>(
     nodes: &[Node],
     arcs: &[Arc],
@@ -85,7 +120,5 @@ pub fn floor_and_charge<C: Cost>(
     ensures charged { result.1 ≡ charge (net_of nodes.now arcs.now (map C.Cost.meaning costs.now)) (numbers loads.now) }
     ensures duality { Meets (net_of nodes.now arcs.now (map C.Cost.meaning costs.now)) (numbers loads.now) → result.0 ≤ℤ result.1 }
 {
-    let floor = floor_of(nodes, arcs, costs, prices);
-    let charge = charge_of(costs, loads);
-    (floor, charge)
+    Graph::of(nodes, arcs).floor_and_charge(costs, loads, prices)
 }

@@ -3,8 +3,10 @@ ghost use Rattle.std.specs.Prelude.{◌≡◌, ◌<◌, [], map, length, pos, ne
 ghost use Rattle.cost.specs.Meaning.{Between};
 ghost use Rattle.network.specs.Sums.{counted};
 ghost use Rattle.network.specs.Network.{surplus};
+ghost use Rattle.network.specs.Graphs.{net_in};
 ghost use Rattle.network.specs.Records.{net_of, numbers, Sound, Within, out_of_range, unmet};
 
+use crate::graph::Graph;
 use crate::records::{Arc, Node};
 use cost::costs::{Cost, in_range};
 
@@ -33,7 +35,37 @@ impl Arc {
     }
 }
 
-// The supply of a node and the loads that enter it, less the loads that leave it. No cost enters into it.
+impl Graph<'_> {
+    // The supply of a node and the loads that enter it, less the loads that leave it. No cost enters into it.
+    pub fn surplus_at(&self, loads: &[i64], node: usize) -> i64
+        requires loaded { length loads.now ≡ length self.now.arcs.now }
+        requires limits { Within 10000 loads.now }
+        requires place { node < length self.now.nodes.now }
+        ensures { result ≡ surplus (net_in self.now []) (numbers loads.now) node }
+    {
+        let mut surplus = self.nodes[node].supply;
+        for (arc, load) in self.arcs.iter().zip(loads) {
+            surplus += arc.gain(*load, node);
+        }
+        surplus
+    }
+
+    // The place, from 1, of the first node whose surplus is not 0.
+    pub fn first_unmet(&self, loads: &[i64]) -> Option<usize>
+        requires loaded { length loads.now ≡ length self.now.arcs.now }
+        requires limits { Within 10000 loads.now }
+        ensures { result ≡ unmet (net_in self.now []) (numbers loads.now) }
+    {
+        for node in 0..self.nodes.len() {
+            if self.surplus_at(loads, node) != 0 {
+                return Some(node + 1);
+            }
+        }
+        None
+    }
+}
+
+// The supply of a node and the loads that enter it, less the loads that leave it.
 pub fn surplus_at(nodes: &[Node], arcs: &[Arc], loads: &[i64], node: usize) -> i64
     requires sound { Sound nodes.now arcs.now }
     requires loaded { length loads.now ≡ length arcs.now }
@@ -41,11 +73,7 @@ pub fn surplus_at(nodes: &[Node], arcs: &[Arc], loads: &[i64], node: usize) -> i
     requires place { node < length nodes.now }
     ensures { result ≡ surplus (net_of nodes.now arcs.now []) (numbers loads.now) node }
 {
-    let mut surplus = nodes[node].supply;
-    for (a, arc) in arcs.iter().enumerate() {
-        surplus += arc.gain(loads[a], node);
-    }
-    surplus
+    Graph::of(nodes, arcs).surplus_at(loads, node)
 }
 
 // The place, from 1, of the first node whose surplus is not 0.
@@ -55,10 +83,5 @@ pub fn first_unmet(nodes: &[Node], arcs: &[Arc], loads: &[i64]) -> Option<usize>
     requires limits { Within 10000 loads.now }
     ensures { result ≡ unmet (net_of nodes.now arcs.now []) (numbers loads.now) }
 {
-    for node in 0..nodes.len() {
-        if surplus_at(nodes, arcs, loads, node) != 0 {
-            return Some(node + 1);
-        }
-    }
-    None
+    Graph::of(nodes, arcs).first_unmet(loads)
 }
