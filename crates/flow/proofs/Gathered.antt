@@ -6,9 +6,10 @@ use Rattle.std.proofs.lemmas.Bool.{cases_eq, eq-eqb, ne_eqb, cond-true, cond-fal
 use Rattle.cost.specs.Meaning.{Between}
 use Rattle.network.specs.Sums.{counted}
 use Rattle.network.specs.Network.{Net}
-use Rattle.network.specs.Records.{net_of, numbers, Sound}
-use Rattle.network.specs.declared.records.Node.{Node}
-use Rattle.network.specs.declared.records.Arc.{Arc}
+use Rattle.network.specs.Graphs.{net_in}
+use Rattle.network.specs.Records.{numbers}
+use Rattle.network.specs.declared.graph.Graph.{Graph}
+use Rattle.network.proofs.Graphs.{graph_sound}
 use Rattle.network.proofs.Sums.{sum_more, sum_within}
 use Rattle.network.proofs.Gains.{gain_of, surplus_by}
 
@@ -28,24 +29,24 @@ pub counted_limit : (b : Bool) (x : ℤ) (c : ℕ) → Between (pos 0) (pos c) x
 counted_limit true x c h = h
 counted_limit false x c h = omega (arith, ints)
 
-module _ (nodes : List Node) (arcs : List Arc) (loads : List ℤ) (sound : Sound nodes arcs) (limits : (a : ℕ) → a < length arcs → Between (pos 0) (pos 10000) (numbers loads a)) where
+module _ (graph : Graph) (loads : List ℤ) (limits : (a : ℕ) → a < length graph.arcs.now → Between (pos 0) (pos 10000) (numbers loads a)) where
   abbrev net : Net
-  net = net_of nodes arcs []
+  net = net_in graph []
 
-  pub moderate : (v n : ℕ) → v < length nodes → n ≤ length arcs → Between (neg_ℤ (pos 2660000)) (pos 2660000) (surplus_by net (numbers loads) v n)
+  pub moderate : (v n : ℕ) → v < length graph.nodes.now → n ≤ length graph.arcs.now → Between (neg_ℤ (pos 2660000)) (pos 2660000) (surplus_by net (numbers loads) v n)
   moderate v n place h =
       let gains = sum_within n 10000 (gain_of net (numbers loads) v) (λ a l.
       omega (arith, ints, counted_limit (eqb (net.head a) v) (numbers loads a) 10000 (limits a (omega arith)), counted_limit (eqb (net.tail a) v) (numbers loads a) 10000 (limits a (omega arith)))) in
-      omega (arith, ints, sound.arc_limit, sound.supply_limit v place)
+      omega (arith, ints, (graph_sound graph).arc_limit, (graph_sound graph).supply_limit v place)
 
-  module _ (xs : List ℤ) (a : ℕ) (within : a < length arcs) (so_far : (v : ℕ) → v < length nodes → numbers xs v ≡ surplus_by net (numbers loads) v a) where
+  module _ (xs : List ℤ) (a : ℕ) (within : a < length graph.arcs.now) (so_far : (v : ℕ) → v < length graph.nodes.now → numbers xs v ≡ surplus_by net (numbers loads) v a) where
     -- the numbers at the ends of the arc are far from the limits
     pub limits_here : Between (neg_ℤ (pos 2660000)) (pos 2660000) (numbers xs (net.tail a)) × Between (neg_ℤ (pos 2660000)) (pos 2660000) (numbers xs (net.head a))
     limits_here =
-        let head_in = sound.heads a within in
-        let tail_in = sound.tails a within in
+        let head_in = (graph_sound graph).heads a within in
+        let tail_in = (graph_sound graph).tails a within in
         (rw (so_far (net.tail a) tail_in) (moderate (net.tail a) a tail_in (omega arith)), rw (so_far (net.head a) head_in) (moderate (net.head a) a head_in (omega arith)))
 
     pub gathered : (ys : List ℤ) → ((v : ℕ) → numbers ys v ≡ numbers xs v +ℤ counted (eqb (net.head a) v) (numbers loads a) -ℤ counted (eqb (net.tail a) v) (numbers loads a))
-        → (v : ℕ) → v < length nodes → numbers ys v ≡ surplus_by net (numbers loads) v (a + 1)
+        → (v : ℕ) → v < length graph.nodes.now → numbers ys v ≡ surplus_by net (numbers loads) v (a + 1)
     gathered ys is v h = omega (arith, ints, is v, so_far v h, sum_more a (gain_of net (numbers loads) v))

@@ -1,6 +1,6 @@
 pub mod Counts
 pub mod Marks
-pub mod Passes
+pub mod Loads
 pub mod Listing
 pub mod Queuing
 pub mod Stepping

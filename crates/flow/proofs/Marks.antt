@@ -3,7 +3,7 @@ use Rattle.std.proofs.Common.{◌≡◌, ℕ, ◌+◌, ◌<◌, ◌≤◌, Bool,
 use lib.Signed.{lt_z}
 use Rattle.std.proofs.lemmas.Int.{ints, clamps}
 use Rattle.std.proofs.lemmas.List.{get_or-set_same, get_or-set_other, length-set}
-use Rattle.std.proofs.lemmas.Bool.{cases_eq, and_parts, not-true, both_ways, or_right, or_parts, or_cases}
+use Rattle.std.proofs.lemmas.Bool.{cases_eq, and_parts, not-true, both_ways, or_parts, or_cases}
 use Rattle.network.specs.Network.{Net, surplus}
 use Rattle.flow.specs.declared.reach.Label.{Label}
 use Rattle.flow.specs.Labels.{no_label, label_of, reached_in, unreached, end_of, start_of, room_on, extends, onward, Stepped, Labelled, ClosedIn}
@@ -99,34 +99,50 @@ shut_if true true room test reached above = refl
 shut_if true false room test reached above = absurd (both_ways (lt_z (pos 0) room) (sym test) (sym (omega (arith, ints))))
 shut_if false to room test reached above = absurd (both_ways false refl reached)
 
-module _ (net : Net) (low high load : ℕ → ℤ) (before labels next : List Label) (further : Bool) (grown : Grown net low high load before further labels)
+-- a step that reaches a node more or leaves the labels as they are
+pub stepped : (net : Net) (low high load : ℕ → ℤ) (labels : List Label) (r : Bool) (next : List Label) (from to : ℕ) (room : ℤ) → Labelled net low high load next
+    → (r ≡ true → unreached net.nodes next < unreached net.nodes labels) → (r ≡ false → next ≡ labels)
+    → (r ≡ false → reached_in labels from ≡ true → pos 0 <ℤ room → reached_in labels to ≡ true)
+    → Extended net low high load labels r next from to room
+stepped net low high load labels true next from to room labelled fewer same shut = record {
+  grown = record { labelled = labelled; no_more = omega (arith, fewer refl); fewer = fewer; same = same };
+  shut = shut;
+}
+stepped net low high load labels false next from to room labelled fewer same shut = record {
+  grown = record { labelled = labelled; no_more = rw (same refl) (omega arith); fewer = fewer; same = same };
+  shut = shut;
+}
+
+module _ (net : Net) (low high load : ℕ → ℤ) (labels next : List Label) (labelled : Labelled net low high load labels)
     (forward : Bool) (a from to : ℕ) (room : ℤ) (arc_in : a < net.arcs) (from_in : from < net.nodes) (to_in : to < net.nodes)
     (starts : start_of net forward a ≡ from) (ends : end_of net forward a ≡ to) (room_is : room ≡ room_on forward (low a) (high a) (load a)) where
   pub extend_by : (r : Bool) → r ≡ extends labels from to room → next ≡ cond r (set labels to (onward labels from a forward room)) labels
-      → Extended net low high load before (further || r) next from to room
+      → Extended net low high load labels r next from to room
   extend_by true test is =
-      let less = fewer net low high load labels grown.labelled forward a from to room arc_in from_in to_in starts ends room_is (sym test) in
-      let on : unreached net.nodes next < unreached net.nodes before = rw is (omega (arith, less, grown.no_more)) in
-      record {
-        grown = record {
-          labelled = rw is (extended net low high load labels grown.labelled forward a from to room arc_in from_in to_in starts ends room_is (sym test));
-          no_more = omega (arith, on);
-          fewer = λ _. on;
-          same = λ e. absurd (both_ways (further || true) e (or_right further true refl));
-        };
-        shut = λ e. absurd (both_ways (further || true) e (or_right further true refl));
-      }
-  extend_by false test is = record {
-    grown = record {
-      labelled = rw is grown.labelled;
-      no_more = rw is grown.no_more;
-      fewer = λ e. rw is (elim (or_cases further false e) [ inl f ↦ grown.fewer f | inr no_way ↦ absurd (both_ways false refl no_way) ]);
-      same = λ e. is ∙ grown.same (or_parts further false e).0;
-    };
-    shut = λ e reached above.
-        let alike = grown.same (or_parts further false e).0 in
-        shut_if (reached_in before from) (reached_in before to) room (rw alike at test) reached above;
-  }
+      stepped net low high load labels true next from to room
+      (rw is (extended net low high load labels labelled forward a from to room arc_in from_in to_in starts ends room_is (sym test)))
+      (λ _. rw is (fewer net low high load labels labelled forward a from to room arc_in from_in to_in starts ends room_is (sym test)))
+      (λ e. absurd (both_ways true e refl))
+      (λ e. absurd (both_ways true e refl))
+  extend_by false test is =
+      stepped net low high load labels false next from to room (rw is labelled) (λ e. absurd (both_ways false refl e)) (λ _. is)
+      (λ _. shut_if (reached_in labels from) (reached_in labels to) room test)
+
+-- a step that follows others
+pub step_on : (net : Net) (low high load : ℕ → ℤ) (before labels next : List Label) (further r : Bool) (from to : ℕ) (room : ℤ)
+    → Grown net low high load before further labels → Extended net low high load labels r next from to room → Extended net low high load before (further || r) next from to room
+step_on net low high load before labels next further r from to room grown step = record {
+  grown = record {
+    labelled = step.grown.labelled;
+    no_more = omega (arith, step.grown.no_more, grown.no_more);
+    fewer = λ e. elim (or_cases further r e) [
+      | inl f ↦ omega (arith, step.grown.no_more, grown.fewer f)
+      | inr f ↦ omega (arith, step.grown.fewer f, grown.no_more)
+    ];
+    same = λ e. let none = or_parts further r e in step.grown.same none.1 ∙ grown.same none.0;
+  };
+  shut = λ e. let none = or_parts further r e in rw (← grown.same none.0) (step.shut none.1);
+}
 
 -- the pass has come to the arc a
 pub record Passing (net : Net) (low high load : ℕ → ℤ) (before : List Label) (further : Bool) (labels : List Label) (a : ℕ) : Type 0 where

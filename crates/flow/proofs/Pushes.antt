@@ -6,9 +6,11 @@ use Rattle.std.proofs.lemmas.Bool.{cases_eq}
 use Rattle.cost.specs.Meaning.{Between}
 use Rattle.network.specs.Sums.{counted}
 use Rattle.network.specs.Network.{Net, surplus}
-use Rattle.network.specs.Records.{net_of, numbers}
-use Rattle.network.specs.declared.records.Node.{Node}
-use Rattle.network.specs.declared.records.Arc.{Arc}
+use Rattle.network.specs.Graphs.{net_in}
+use Rattle.network.specs.Records.{numbers}
+use Rattle.network.specs.declared.graph.Graph.{Graph}
+use Rattle.flow.specs.declared.spans.Span.{Span}
+use Rattle.flow.specs.Spans.{low_of, high_of}
 use Rattle.network.proofs.Changes.{alike_set, surplus_changed}
 use Rattle.flow.specs.declared.reach.Label.{Label}
 use Rattle.flow.proofs.Gathered.{counted_neg}
@@ -20,15 +22,15 @@ abbrev pub over : Bool → ℤ → ℤ
 over forward by = cond forward by (neg_ℤ by)
 
 -- the way back has come to a node, from which the amount is still to be brought to the target
-pub record Pushing (nodes : List Node) (arcs : List Arc) (lows highs start : List ℤ) (labels : List Label) (target : ℕ) (by : ℤ) (loads : List ℤ) (node : ℕ) : Type 0 where
-  pub ready : Ready nodes arcs lows highs loads
-  pub place : node < length nodes
+pub record Pushing (graph : Graph) (spans : List Span) (start : List ℤ) (labels : List Label) (target : ℕ) (by : ℤ) (loads : List ℤ) (node : ℕ) : Type 0 where
+  pub ready : Ready graph spans loads
+  pub place : node < length graph.nodes.now
   pub reached : reached_in labels node ≡ true
   pub amount : by ≤ℤ (label_of labels node).width
-  pub kept : (v : ℕ) → v < length nodes → reached_in labels v ≡ true → 0 < (label_of labels v).order → (label_of labels v).order ≤ (label_of labels node).order
+  pub kept : (v : ℕ) → v < length graph.nodes.now → reached_in labels v ≡ true → 0 < (label_of labels v).order → (label_of labels v).order ≤ (label_of labels node).order
       → numbers loads (label_of labels v).arc ≡ numbers start (label_of labels v).arc
-  pub moved : (v : ℕ) → v < length nodes
-      → surplus (net_of nodes arcs []) (numbers loads) v ≡ surplus (net_of nodes arcs []) (numbers start) v +ℤ counted (eqb target v) by -ℤ counted (eqb node v) by
+  pub moved : (v : ℕ) → v < length graph.nodes.now
+      → surplus (net_in graph []) (numbers loads) v ≡ surplus (net_in graph []) (numbers start) v +ℤ counted (eqb target v) by -ℤ counted (eqb node v) by
 
 -- two steps over one arc end at one node, or each starts where the other ends
 two_steps : (net : Net) (a : ℕ) (f g : Bool) (u v w x : ℕ) → end_of net f a ≡ u → start_of net f a ≡ v → end_of net g a ≡ w → start_of net g a ≡ x → (u ≡ w → ⊥) → (u ≡ x) × (v ≡ w)
@@ -61,13 +63,13 @@ stepped_surplus net load other a false by v is e =
       counted_neg (eqb (net.tail a) v) by,
     )
 
-module _ (nodes : List Node) (arcs : List Arc) (lows highs start : List ℤ) (labels : List Label) (target : ℕ) (by : ℤ)
-    (labelled : Labelled (net_of nodes arcs []) (numbers lows) (numbers highs) (numbers start) labels) (sign : pos 0 ≤ℤ by) where
+module _ (graph : Graph) (spans : List Span) (start : List ℤ) (labels : List Label) (target : ℕ) (by : ℤ)
+    (labelled : Labelled (net_in graph []) (low_of spans) (high_of spans) (numbers start) labels) (sign : pos 0 ≤ℤ by) where
   abbrev net : Net
-  net = net_of nodes arcs []
+  net = net_in graph []
 
-  pub push_starts : Ready nodes arcs lows highs start → target < length nodes → reached_in labels target ≡ true → by ≤ℤ (label_of labels target).width
-      → Pushing nodes arcs lows highs start labels target by start target
+  pub push_starts : Ready graph spans start → target < length graph.nodes.now → reached_in labels target ≡ true → by ≤ℤ (label_of labels target).width
+      → Pushing graph spans start labels target by start target
   push_starts ready place reached amount = record {
     ready = ready;
     place = place;
@@ -77,14 +79,14 @@ module _ (nodes : List Node) (arcs : List Arc) (lows highs start : List ℤ) (la
     moved = λ v h. omega (arith, ints);
   }
 
-  module _ (loads : List ℤ) (node : ℕ) (pushing : Pushing nodes arcs lows highs start labels target by loads node) (later : 0 < (label_of labels node).order) where
+  module _ (loads : List ℤ) (node : ℕ) (pushing : Pushing graph spans start labels target by loads node) (later : 0 < (label_of labels node).order) where
     abbrev label : Label
     label = label_of labels node
 
     abbrev next : List ℤ
     next = set loads label.arc (numbers loads label.arc +ℤ over label.forward by)
 
-    pub step : Stepped net (numbers lows) (numbers highs) (numbers start) node label (label_of labels label.from)
+    pub step : Stepped net (low_of spans) (high_of spans) (numbers start) node label (label_of labels label.from)
     step = labelled.steps node pushing.place pushing.reached later
 
     at_arc : numbers next label.arc ≡ numbers loads label.arc +ℤ over label.forward by
@@ -93,9 +95,9 @@ module _ (nodes : List Node) (arcs : List Arc) (lows highs start : List ℤ) (la
     here : numbers loads label.arc ≡ numbers start label.arc
     here = pushing.kept node pushing.place pushing.reached later (omega arith)
 
-    pub held_on : Between (numbers lows label.arc) (numbers highs label.arc) (numbers loads label.arc +ℤ over label.forward by)
+    pub held_on : Between (low_of spans label.arc) (high_of spans label.arc) (numbers loads label.arc +ℤ over label.forward by)
     held_on =
-        let room : by ≤ℤ room_on label.forward (numbers lows label.arc) (numbers highs label.arc) (numbers loads label.arc) = rw here (omega (arith, ints, step.fits, pushing.amount)) in
+        let room : by ≤ℤ room_on label.forward (low_of spans label.arc) (high_of spans label.arc) (numbers loads label.arc) = rw here (omega (arith, ints, step.fits, pushing.amount)) in
         room_kept label.forward _ _ _ by sign room (pushing.ready.held label.arc step.arc_in)
 
     -- what the change of the load asks
@@ -115,7 +117,7 @@ module _ (nodes : List Node) (arcs : List Arc) (lows highs start : List ℤ) (la
           amount = (sign, small label.forward _ _ _ by low high held held_on);
         }
 
-    apart : (v : ℕ) → v < length nodes → reached_in labels v ≡ true → 0 < (label_of labels v).order → (label_of labels v).order ≤ (label_of labels label.from).order
+    apart : (v : ℕ) → v < length graph.nodes.now → reached_in labels v ≡ true → 0 < (label_of labels v).order → (label_of labels v).order ≤ (label_of labels label.from).order
         → (label_of labels v).arc ≡ label.arc → ⊥
     apart v h reached later' order same =
         let other = labelled.steps v h reached later' in
@@ -124,12 +126,10 @@ module _ (nodes : List Node) (arcs : List Arc) (lows highs start : List ℤ) (la
         (λ e. omega (arith, step.earlier, ap (λ k. (label_of labels k).order) e)) in
         omega (arith, step.earlier, other.earlier, ap (λ k. (label_of labels k).order) crossed.0)
 
-    pub push_on : Pushing nodes arcs lows highs start labels target by next label.from
+    pub push_on : Pushing graph spans start labels target by next label.from
     push_on = record {
       ready = record {
-        sound = pushing.ready.sound;
-        lows_long = pushing.ready.lows_long;
-        highs_long = pushing.ready.highs_long;
+        spans_long = pushing.ready.spans_long;
         loads_long = simp length-set pushing.ready.loads_long;
         low_limit = pushing.ready.low_limit;
         high_limit = pushing.ready.high_limit;
@@ -148,7 +148,7 @@ module _ (nodes : List Node) (arcs : List Arc) (lows highs start : List ℤ) (la
             ints,
             pushing.moved v h,
             stepped_surplus net (numbers loads) (numbers next) label.arc label.forward by v (omega (arith, ints, at_arc))
-                (surplus_changed net (numbers loads) (numbers next) label.arc step.arc_in (alike_set (length arcs) label.arc loads _ (pos 0)) v),
+                (surplus_changed net (numbers loads) (numbers next) label.arc step.arc_in (alike_set (length graph.arcs.now) label.arc loads _ (pos 0)) v),
             ap (λ k. counted (eqb k v) by) step.ends,
             ap (λ k. counted (eqb k v) by) step.starts,
           );

@@ -6,9 +6,12 @@ use Rattle.std.proofs.lemmas.Bool.{false≢true}
 use Rattle.cost.specs.Meaning.{Between}
 use Rattle.network.specs.Sums.{sum, counted}
 use Rattle.network.specs.Network.{Net, Ends, surplus, leaves, enters, sum_marked}
-use Rattle.network.specs.Records.{net_of, numbers}
-use Rattle.network.specs.declared.records.Node.{Node}
-use Rattle.network.specs.declared.records.Arc.{Arc}
+use Rattle.network.specs.Graphs.{net_in}
+use Rattle.network.specs.Records.{numbers}
+use Rattle.network.specs.declared.graph.Graph.{Graph}
+use Rattle.network.proofs.Graphs.{graph_sound}
+use Rattle.flow.specs.declared.spans.Span.{Span}
+use Rattle.flow.specs.Spans.{low_of, high_of}
 use Rattle.network.proofs.Counted.{counted_same}
 use Rattle.network.proofs.Sums.{sum_same, sum_minus, sum_none, sum_covers}
 use Rattle.network.proofs.Cuts.{crossing, conservation, sum_marked_above}
@@ -42,32 +45,50 @@ closed_bars net low high load labels ends held closed above =
           sym (stays (reached_in labels (net.head a)) (reached_in labels (net.tail a)) (low a) (load a) crosses (closed a h).against (held a h).0))),
     )
 
-module _ (nodes : List Node) (arcs : List Arc) (lows highs loads surpluses : List ℤ) (ready : Ready nodes arcs lows highs loads) (tells : Tells nodes arcs loads surpluses) where
-  abbrev net : Net
-  net = net_of nodes arcs []
+-- sets that have the same nodes are over full alike
+pub over_full_alike : (net : Net) (low high : ℕ → ℤ) (marked other : ℕ → Bool) → Ends net → ((v : ℕ) → v < net.nodes → other v ≡ marked v) → OverFullWithin net low high marked → OverFullWithin net low high other
+over_full_alike net low high marked other ends same full =
+    omega (
+      arith,
+      ints,
+      full,
+      sum_same net.nodes _ _ (λ v h. ap (λ b. counted b (net.supply v)) (same v h)),
+      sum_same net.arcs _ _ (λ a h. ap (λ b. counted b (high a)) (leaving a h)),
+      sum_same net.arcs _ _ (λ a h. ap (λ b. counted b (low a)) (entering a h)),
+    )
+  where
+    leaving : (a : ℕ) → a < net.arcs → leaves net other a ≡ leaves net marked a
+    leaving a h = cc (same (net.tail a) (ends.tails a h), same (net.head a) (ends.heads a h))
 
-  pub loads_limit : (a : ℕ) → a < length arcs → Between (pos 0) (pos 10000) (numbers loads a)
+    entering : (a : ℕ) → a < net.arcs → enters net other a ≡ enters net marked a
+    entering a h = cc (same (net.tail a) (ends.tails a h), same (net.head a) (ends.heads a h))
+
+module _ (graph : Graph) (spans : List Span) (loads surpluses : List ℤ) (ready : Ready graph spans loads) (tells : Tells graph loads surpluses) where
+  abbrev net : Net
+  net = net_in graph []
+
+  pub loads_limit : (a : ℕ) → a < length graph.arcs.now → Between (pos 0) (pos 10000) (numbers loads a)
   loads_limit a h = omega (arith, ints, ready.low_limit a h, ready.high_limit a h, ready.held a h)
 
-  pub surplus_limit : (v : ℕ) → v < length nodes → Between (neg_ℤ (pos 2660000)) (pos 2660000) (numbers surpluses v)
-  surplus_limit v h = rw (tells.told v h ∙ surplus_by_all net (numbers loads) v) (moderate nodes arcs loads ready.sound loads_limit v (length arcs) h (omega arith))
+  pub surplus_limit : (v : ℕ) → v < length graph.nodes.now → Between (neg_ℤ (pos 2660000)) (pos 2660000) (numbers surpluses v)
+  surplus_limit v h = rw (tells.told v h ∙ surplus_by_all net (numbers loads) v) (moderate graph loads loads_limit v (length graph.arcs.now) h (omega arith))
 
-  pub labelled_sources : (labels : List Label) → length nodes ≤ length labels → ((v : ℕ) → v < length nodes → label_of labels v ≡ source (numbers surpluses v))
-      → Labelled net (numbers lows) (numbers highs) (numbers loads) labels
-  labelled_sources labels long is = sources_labelled net (numbers lows) (numbers highs) (numbers loads) labels long (λ v h. is v h ∙ ap source (tells.told v h))
+  pub labelled_sources : (labels : List Label) → length graph.nodes.now ≤ length labels → ((v : ℕ) → v < length graph.nodes.now → label_of labels v ≡ source (numbers surpluses v))
+      → Labelled net (low_of spans) (high_of spans) (numbers loads) labels
+  labelled_sources labels long is = sources_labelled net (low_of spans) (high_of spans) (numbers loads) labels long (λ v h. is v h ∙ ap source (tells.told v h))
 
-  module _ (labels : List Label) (labelled : Labelled net (numbers lows) (numbers highs) (numbers loads) labels) where
-    pub bars : (over : ℕ) → over < length nodes → pos 0 <ℤ numbers surpluses over
-        → ((a : ℕ) → a < length arcs → ClosedIn net (numbers lows) (numbers highs) (numbers loads) labels a)
-        → ((v : ℕ) → v < length nodes → reached_in labels v ≡ true → pos 0 ≤ℤ numbers surpluses v)
-        → OverFullWithin net (numbers lows) (numbers highs) (reached_in labels)
+  module _ (labels : List Label) (labelled : Labelled net (low_of spans) (high_of spans) (numbers loads) labels) where
+    pub bars : (over : ℕ) → over < length graph.nodes.now → pos 0 <ℤ numbers surpluses over
+        → ((a : ℕ) → a < length graph.arcs.now → ClosedIn net (low_of spans) (high_of spans) (numbers loads) labels a)
+        → ((v : ℕ) → v < length graph.nodes.now → reached_in labels v ≡ true → pos 0 ≤ℤ numbers surpluses v)
+        → OverFullWithin net (low_of spans) (high_of spans) (reached_in labels)
     bars over place above closed none =
         let here = tells.told over place in
-        closed_bars net (numbers lows) (numbers highs) (numbers loads) labels (record { tails = ready.sound.tails; heads = ready.sound.heads }) ready.held closed
+        closed_bars net (low_of spans) (high_of spans) (numbers loads) labels (record { tails = (graph_sound graph).tails; heads = (graph_sound graph).heads }) ready.held closed
         (sum_marked_above net (reached_in labels) (surplus net (numbers loads)) over place (labelled.sourced over place (omega (arith, ints))) (omega (arith, ints))
         (λ v h reached. omega (arith, ints, none v h reached, tells.told v h)))
 
-    module _ (target : ℕ) (place : target < length nodes) (reached : reached_in labels target ≡ true) (short : numbers surpluses target <ℤ pos 0) where
+    module _ (target : ℕ) (place : target < length graph.nodes.now) (reached : reached_in labels target ≡ true) (short : numbers surpluses target <ℤ pos 0) where
       -- an amount that can come to the target and that it wants
       pub record Amount (by : ℤ) : Type 0 where
         pub sign : pos 0 <ℤ by
@@ -82,17 +103,17 @@ module _ (nodes : List Node) (arcs : List Arc) (lows highs loads surpluses : Lis
           record { sign = omega (arith, ints, clamps); fits = omega (arith, ints, clamps); owed = omega (arith, ints, clamps); limit = omega (arith, ints, clamps) }
 
       pub record Relieved (next told : List ℤ) : Type 0 where
-        pub telling : Tells nodes arcs next told
-        pub less : excess (length nodes) told < excess (length nodes) surpluses
+        pub telling : Tells graph next told
+        pub less : excess (length graph.nodes.now) told < excess (length graph.nodes.now) surpluses
 
-      pub relieved : (by : ℤ) → Amount by → (next told : List ℤ) (start : ℕ) → start < length nodes → reached_in labels start ≡ true → (label_of labels start).order ≡ 0 → by ≤ℤ (label_of labels start).width
-          → ((v : ℕ) → v < length nodes → surplus net (numbers next) v ≡ surplus net (numbers loads) v +ℤ counted (eqb target v) by -ℤ counted (eqb start v) by)
+      pub relieved : (by : ℤ) → Amount by → (next told : List ℤ) (start : ℕ) → start < length graph.nodes.now → reached_in labels start ≡ true → (label_of labels start).order ≡ 0 → by ≤ℤ (label_of labels start).width
+          → ((v : ℕ) → v < length graph.nodes.now → surplus net (numbers next) v ≡ surplus net (numbers loads) v +ℤ counted (eqb target v) by -ℤ counted (eqb start v) by)
           → length surpluses ≤ length told
           → ((v : ℕ) → numbers told v ≡ numbers surpluses v +ℤ counted (eqb target v) by -ℤ counted (eqb start v) by)
           → Relieved next told
       relieved by enough next told start from_in from_reached first fits moved long noted = record {
         telling = record { long = omega (arith, tells.long); told = λ v h. omega (arith, ints, noted v, moved v h, tells.told v h) };
-        less = excess_falls (length nodes) surpluses told start target by from_in place enough.sign
+        less = excess_falls (length graph.nodes.now) surpluses told start target by from_in place enough.sign
             (omega (arith, ints, labelled.sources start from_in from_reached first, tells.told start from_in)) enough.owed (λ v h. noted v);
       }
 

@@ -1,14 +1,15 @@
 -- A single step over an arc, along it or against it, keeps the labels sound.
 use Rattle.std.proofs.Common.{◌≡◌, ℕ, ◌<◌, Bool, true, false, cond, List, [], length, set, ℤ, ◌-ℤ◌, sym, arith, w64, SFits}
+use Rattle.std.proofs.lemmas.Int.{ints}
 use Rattle.network.specs.Network.{Net}
-use Rattle.network.specs.Records.{net_of, numbers}
-use Rattle.network.specs.declared.records.Node.{Node}
-use Rattle.network.specs.declared.records.Arc.{Arc}
+use Rattle.network.specs.Graphs.{net_in}
+use Rattle.network.specs.Records.{numbers}
+use Rattle.network.proofs.Graphs.{graph_sound}
+use Rattle.flow.specs.declared.loaded.Loaded.{Loaded}
 use Rattle.flow.specs.declared.reach.Label.{Label}
-use Rattle.flow.specs.Within.{Ready}
-use Rattle.flow.specs.Labels.{extends, onward, end_of, start_of, room_on, Labelled}
-use Rattle.flow.proofs.Marks.{Grown, extend_by, pass_starts}
-use Rattle.flow.proofs.Passes.{rooms_fit}
+use Rattle.flow.specs.Spans.{low_of, high_of}
+use Rattle.flow.specs.Labels.{extends, onward, end_of, start_of, room_on, LabelledOn}
+use Rattle.flow.proofs.Marks.{Extended, extend_by}
 use Rattle.flow.proofs.Listing.{either}
 
 -- what holds of the rise and of the fall of a load holds of its room in either direction
@@ -16,26 +17,41 @@ by_way : (P : ℤ → Type 0) (forward : Bool) (low high load : ℤ) → P (high
 by_way P true low high load rise fall = rise
 by_way P false low high load rise fall = fall
 
-module _ (nodes : List Node) (arcs : List Arc) (lows highs loads : List ℤ) (ready : Ready nodes arcs lows highs loads) (a : ℕ) (within : a < length arcs) (forward : Bool) where
+module _ (loaded : Loaded) (a : ℕ) (within : a < length loaded.graph.arcs.now) (forward : Bool) where
   abbrev net : Net
-  net = net_of nodes arcs []
+  net = net_in loaded.graph []
+
+  abbrev low : ℕ → ℤ
+  low = low_of loaded.spans.now
+
+  abbrev high : ℕ → ℤ
+  high = high_of loaded.spans.now
+
+  abbrev load : ℕ → ℤ
+  load = numbers loaded.loads.now
 
   -- both ends of the step are nodes
-  pub start_in : start_of net forward a < length nodes
-  start_in = either forward (net.tail a) (net.head a) (length nodes) (ready.sound.tails a within) (ready.sound.heads a within)
+  pub start_in : start_of net forward a < length loaded.graph.nodes.now
+  start_in = either forward (net.tail a) (net.head a) (length loaded.graph.nodes.now) ((graph_sound loaded.graph).tails a within) ((graph_sound loaded.graph).heads a within)
 
-  pub end_in : end_of net forward a < length nodes
-  end_in = either forward (net.head a) (net.tail a) (length nodes) (ready.sound.heads a within) (ready.sound.tails a within)
+  pub end_in : end_of net forward a < length loaded.graph.nodes.now
+  end_in = either forward (net.head a) (net.tail a) (length loaded.graph.nodes.now) ((graph_sound loaded.graph).heads a within) ((graph_sound loaded.graph).tails a within)
 
-  pub room_fits : SFits w64 (room_on forward (numbers lows a) (numbers highs a) (numbers loads a))
+  pub limits_fit : SFits w64 (low a) × SFits w64 (high a) × SFits w64 (load a)
+  limits_fit = omega (arith, ints, loaded.low_limit a within, loaded.high_limit a within, loaded.above_low a within, loaded.under_high a within)
+
+  pub room_fits : SFits w64 (room_on forward (low a) (high a) (load a))
   room_fits =
-      let fits = rooms_fit nodes arcs lows highs loads ready a within in
-      by_way (SFits w64) forward (numbers lows a) (numbers highs a) (numbers loads a) fits.3 fits.4
+      let low_here = loaded.low_limit a within in
+      let high_here = loaded.high_limit a within in
+      let above = loaded.above_low a within in
+      let under = loaded.under_high a within in
+      by_way (SFits w64) forward (low a) (high a) (load a) (omega (arith, ints)) (omega (arith, ints))
 
-  pub stepped_over : (labels next : List Label) (from to : ℕ) (room : ℤ) (r : Bool) → Labelled net (numbers lows) (numbers highs) (numbers loads) labels
-      → from ≡ start_of net forward a → to ≡ end_of net forward a → room ≡ room_on forward (numbers lows a) (numbers highs a) (numbers loads a)
+  pub stepped_over : (labels next : List Label) (from to : ℕ) (room : ℤ) (r : Bool) → LabelledOn loaded labels
+      → from ≡ start_of net forward a → to ≡ end_of net forward a → room ≡ room_on forward (low a) (high a) (load a)
       → r ≡ extends labels from to room → next ≡ cond r (set labels to (onward labels from a forward room)) labels
-      → Grown net (numbers lows) (numbers highs) (numbers loads) labels r next
+      → Extended net low high load labels r next from to room
   stepped_over labels next from to room r labelled starts ends rooms test is =
-      (extend_by net (numbers lows) (numbers highs) (numbers loads) labels labels next false (pass_starts net (numbers lows) (numbers highs) (numbers loads) labels labelled).grown
-      forward a from to room within (omega (arith, start_in, starts)) (omega (arith, end_in, ends)) (sym starts) (sym ends) rooms r test is).grown
+      extend_by net low high load labels next labelled
+      forward a from to room within (omega (arith, start_in, starts)) (omega (arith, end_in, ends)) (sym starts) (sym ends) rooms r test is

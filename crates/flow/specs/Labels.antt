@@ -1,8 +1,12 @@
 -- The labels by which a search over the steps left open by the loads notes how it reached each node.
-use Rattle.std.specs.Prelude.{◌≡◌, ℕ, zero, suc, ◌+◌, ◌<◌, ◌≤◌, Bool, true, false, cond, not, ◌&&◌, List, length, ℤ, pos, ◌-ℤ◌, ◌≤ℤ◌, ◌<ℤ◌, int_lt, slice_index_or}
+use Rattle.std.specs.Prelude.{◌≡◌, ℕ, zero, suc, ◌+◌, ◌<◌, ◌≤◌, Bool, true, false, cond, not, ◌&&◌, List, [], length, ℤ, pos, ◌-ℤ◌, ◌≤ℤ◌, ◌<ℤ◌, int_lt, slice_index_or}
 use Rattle.std.specs.Int.{int_min}
 use Rattle.network.specs.Network.{Net, surplus}
+use Rattle.network.specs.Graphs.{net_in}
+use Rattle.network.specs.Records.{numbers}
 use Rattle.flow.specs.declared.reach.Label.{Label}
+use Rattle.flow.specs.declared.loaded.Loaded.{Loaded}
+use Rattle.flow.specs.Spans.{low_of, high_of}
 
 -- What stands past the end of a list of labels: a node that was not reached.
 abbrev pub no_label : Label
@@ -81,3 +85,11 @@ pub record Labelled (net : Net) (low high load : ℕ → ℤ) (labels : List Lab
 pub record ClosedIn (net : Net) (low high load : ℕ → ℤ) (labels : List Label) (a : ℕ) : Type 0 where
   pub along : reached_in labels (net.tail a) ≡ true → load a <ℤ high a → reached_in labels (net.head a) ≡ true
   pub against : reached_in labels (net.head a) ≡ true → low a <ℤ load a → reached_in labels (net.tail a) ≡ true
+
+-- Labels that are sound for the loads of a graph.
+abbrev pub LabelledOn : Loaded → List Label → Type 0
+LabelledOn loaded labels = Labelled (net_in loaded.graph []) (low_of loaded.spans.now) (high_of loaded.spans.now) (numbers loaded.loads.now) labels
+
+-- No step with room over the arc leads out of the nodes that were reached.
+abbrev pub ClosedOn : Loaded → List Label → ℕ → Type 0
+ClosedOn loaded labels a = ClosedIn (net_in loaded.graph []) (low_of loaded.spans.now) (high_of loaded.spans.now) (numbers loaded.loads.now) labels a

@@ -3,9 +3,10 @@ use Rattle.std.specs.Prelude.{◌≡◌, ℕ, ◌<◌, ◌≤◌, Bool, List, le
 use Rattle.cost.specs.Meaning.{Between}
 use Rattle.network.specs.Sums.{sum, counted}
 use Rattle.network.specs.Network.{Net, surplus, leaves, enters, sum_marked}
-use Rattle.network.specs.Records.{numbers, Sound}
-use Rattle.network.specs.declared.records.Node.{Node}
-use Rattle.network.specs.declared.records.Arc.{Arc}
+use Rattle.network.specs.Records.{numbers}
+use Rattle.network.specs.declared.graph.Graph.{Graph}
+use Rattle.flow.specs.declared.spans.Span.{Span}
+use Rattle.flow.specs.Spans.{low_of, high_of}
 
 -- Each load lies from the low to the high of its arc.
 abbrev pub Held : ℕ → (ℕ → ℤ) → (ℕ → ℤ) → (ℕ → ℤ) → Type 0
@@ -26,12 +27,10 @@ room_within net low high marked =
 abbrev pub OverFullWithin : Net → (ℕ → ℤ) → (ℕ → ℤ) → (ℕ → Bool) → Type 0
 OverFullWithin net low high marked = room_within net low high marked <ℤ sum_marked net marked net.supply
 
--- A sound network, with a low, a high and a load for each arc, the load between the two.
-pub record Ready (nodes : List Node) (arcs : List Arc) (lows highs loads : List ℤ) : Type 0 where
-  pub sound : Sound nodes arcs
-  pub lows_long : length arcs ≤ length lows
-  pub highs_long : length arcs ≤ length highs
-  pub loads_long : length arcs ≤ length loads
-  pub low_limit : (a : ℕ) → a < length arcs → pos 0 ≤ℤ numbers lows a
-  pub high_limit : (a : ℕ) → a < length arcs → numbers highs a ≤ℤ pos 10000
-  pub held : Held (length arcs) (numbers lows) (numbers highs) (numbers loads)
+-- For each arc a span that lies from 0 to 10000, and a load within it.
+pub record Ready (graph : Graph) (spans : List Span) (loads : List ℤ) : Type 0 where
+  pub spans_long : length graph.arcs.now ≤ length spans
+  pub loads_long : length graph.arcs.now ≤ length loads
+  pub low_limit : (a : ℕ) → a < length graph.arcs.now → pos 0 ≤ℤ low_of spans a
+  pub high_limit : (a : ℕ) → a < length graph.arcs.now → high_of spans a ≤ℤ pos 10000
+  pub held : Held (length graph.arcs.now) (low_of spans) (high_of spans) (numbers loads)

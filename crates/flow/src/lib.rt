@@ -8,6 +8,7 @@
 #![tactic(auto)]
 
 mod explore;
+pub mod loaded;
 pub mod meet;
 pub mod near;
 mod push;

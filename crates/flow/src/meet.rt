@@ -1,87 +1,89 @@
-// Loads within lows and highs that leave no surplus, or a set of nodes that bars every such loads.
-ghost use Rattle.std.specs.Prelude.{◌≡◌, ℕ, ◌<◌, ◌≤◌, true, false, [], length, pos, ◌<ℤ◌};
+// Loads within the spans of the arcs that leave no surplus, or a set of nodes that bars every such loads.
+ghost use Rattle.std.specs.Prelude.{◌≡◌, ℕ, ◌<◌, ◌≤◌, [], length, pos, ◌<ℤ◌, OnOk, IfErr};
 ghost use Rattle.network.specs.Sums.{sum};
-ghost use Rattle.network.specs.Records.{net_of, numbers};
+ghost use Rattle.network.specs.Graphs.{net_in};
+ghost use Rattle.network.specs.Records.{numbers};
+ghost use Rattle.flow.specs.Spans.{low_of, high_of};
+ghost use Rattle.flow.specs.Sets.{member};
 ghost use Rattle.flow.specs.Within.{Ready, Met, OverFullWithin};
 ghost use Rattle.flow.specs.Near.{Nearby};
 ghost use Rattle.flow.specs.Labels.{reached_in};
 ghost use Rattle.flow.specs.Surpluses.{Tells, excess};
 
-use crate::explore::explore;
+use crate::loaded::Loaded;
 use crate::near::{Near, near_of};
 use crate::push::push;
-use crate::reach::{Label, first_over, label_sources, reach};
+use crate::reach::{BLANK, Label, first_over, label_sources};
+use crate::sets::NodeSet;
+use crate::spans::Span;
 use crate::surpluses::{surpluses_of, transfer};
-use network::records::{Arc, Node};
+use network::graph::Graph;
+use network::records::MOST_NODES;
+
+// The nodes that are labelled as reached.
+fn reached_of(graph: &Graph<'_>, labels: &[Label]) -> NodeSet
+    requires { length graph.now.nodes.now ≤ length labels.now }
+    ensures { (v : ℕ) → v < length graph.now.nodes.now → member result v ≡ reached_in labels.now v }
+{
+    let mut reached = NodeSet::empty();
+    for v in 0..graph.nodes.len() {
+        if labels[v].reached {
+            reached.insert(v);
+        }
+    }
+    reached
+}
 
 // Brings as much as can go one way from a node of positive surplus, of which `over` is one, to a node of negative surplus. Where
 // there is no way, the nodes that were reached are over full.
 fn relieve(
-    nodes: &[Node],
-    arcs: &[Arc],
-    lows: &[i64],
-    highs: &[i64],
+    graph: &Graph<'_>,
+    spans: &[Span],
     loads: &mut [i64],
     surpluses: &mut [i64],
     near: &Near,
-    labels: &mut [Label],
     over: usize,
-) -> bool
-    requires ready { Ready nodes.now arcs.now lows.now highs.now loads.old }
-    requires tells { Tells nodes.now arcs.now loads.old surpluses.old }
-    requires near { Nearby (length arcs.now) near.now }
-    requires long { length nodes.now ≤ length labels.old }
-    requires place { over < length nodes.now }
+) -> Result<(), NodeSet>
+    requires ready { Ready graph.now spans.now loads.old }
+    requires tells { Tells graph.now loads.old surpluses.old }
+    requires near { Nearby (length graph.now.arcs.now) near.now }
+    requires place { over < length graph.now.nodes.now }
     requires above { pos 0 <ℤ numbers surpluses.old over }
-    ensures ready { Ready nodes.now arcs.now lows.now highs.now loads.new }
-    ensures tells { Tells nodes.now arcs.now loads.new surpluses.new }
-    ensures less { result ≡ true → excess (length nodes.now) surpluses.new < excess (length nodes.now) surpluses.old }
-    ensures barred { result ≡ false → OverFullWithin (net_of nodes.now arcs.now []) (numbers lows.now) (numbers highs.now) (reached_in labels.new) }
+    ensures ready { Ready graph.now spans.now loads.new }
+    ensures tells { Tells graph.now loads.new surpluses.new }
+    ensures less { OnOk result (excess (length graph.now.nodes.now) surpluses.new < excess (length graph.now.nodes.now) surpluses.old) }
+    ensures barred { IfErr result (λ set. OverFullWithin (net_in graph.now []) (low_of spans.now) (high_of spans.now) (member set)) }
 {
-    label_sources(nodes, surpluses, labels);
-    explore(nodes, arcs, lows, highs, loads, surpluses, near, labels);
-    let Some(target) = reach(nodes, arcs, lows, highs, loads, surpluses, labels) else {
-        return false;
+    let mut labels = [BLANK; MOST_NODES];
+    label_sources(graph, surpluses, &mut labels);
+    let loaded = Loaded {
+        graph: *graph,
+        spans,
+        loads,
+    };
+    loaded.explore(surpluses, near, &mut labels);
+    let Some(target) = loaded.reach(surpluses, &mut labels) else {
+        return Err(reached_of(graph, &labels));
     };
     let by = labels[target].width.min(-surpluses[target]);
-    let start = push(nodes, arcs, lows, highs, loads, labels, target, by);
+    let start = push(graph, spans, loads, &labels, target, by);
     transfer(surpluses, start, target, by);
-    true
+    Ok(())
 }
 
-// Changes the loads until no node has a surplus, or answers false, and the nodes that are labelled as reached are over full.
-pub fn meet(
-    nodes: &[Node],
-    arcs: &[Arc],
-    lows: &[i64],
-    highs: &[i64],
-    loads: &mut [i64],
-    labels: &mut [Label],
-) -> bool
-    requires ready { Ready nodes.now arcs.now lows.now highs.now loads.old }
-    requires long { length nodes.now ≤ length labels.old }
-    requires balanced { sum (length nodes.now) (net_of nodes.now arcs.now []).supply ≡ pos 0 }
-    ensures ready { Ready nodes.now arcs.now lows.now highs.now loads.new }
-    ensures met { result ≡ true → Met (net_of nodes.now arcs.now []) (numbers lows.now) (numbers highs.now) (numbers loads.new) }
-    ensures barred { result ≡ false → OverFullWithin (net_of nodes.now arcs.now []) (numbers lows.now) (numbers highs.now) (reached_in labels.new) }
+// Changes the loads until no node has a surplus; where that cannot be, answers a set of nodes that is over full.
+pub fn meet(graph: &Graph<'_>, spans: &[Span], loads: &mut [i64]) -> Result<(), NodeSet>
+    requires ready { Ready graph.now spans.now loads.old }
+    requires balanced { sum (length graph.now.nodes.now) (net_in graph.now []).supply ≡ pos 0 }
+    ensures ready { Ready graph.now spans.now loads.new }
+    ensures met { OnOk result (Met (net_in graph.now []) (low_of spans.now) (high_of spans.now) (numbers loads.new)) }
+    ensures barred { IfErr result (λ set. OverFullWithin (net_in graph.now []) (low_of spans.now) (high_of spans.now) (member set)) }
 {
-    let near = near_of(nodes, arcs);
-    let mut surpluses = [0; 64];
-    surpluses_of(nodes, arcs, loads, &mut surpluses);
-    while let Some(over) = first_over(nodes, &surpluses) {
-        if !relieve(
-            nodes,
-            arcs,
-            lows,
-            highs,
-            loads,
-            &mut surpluses,
-            &near,
-            labels,
-            over,
-        ) {
-            return false;
-        }
+    let near = near_of(graph);
+    let mut surpluses = [0; MOST_NODES];
+    surpluses_of(graph, loads, &mut surpluses);
+    while let Some(over) = first_over(graph, &surpluses) {
+        relieve(graph, spans, loads, &mut surpluses, &near, over)?;
     }
-    true
+    Ok(())
 }

@@ -1,9 +1,9 @@
 // The arcs at each node, in lists that lie in fixed arrays.
 ghost use Rattle.std.specs.Prelude.{◌≡◌, ◌<◌, ◌≤◌, length, if◌then◌else◌, Some, slice_set};
-ghost use Rattle.network.specs.Records.{Sound};
 ghost use Rattle.flow.specs.Near.{Listed, Nearby, listed_at};
 
-use network::records::{Arc, Node};
+use network::graph::Graph;
+use network::records::Arc;
 
 // One list of arcs for each node: the first arc of each list, and after each arc the next one of its list.
 #[derive(Clone, Copy)]
@@ -45,27 +45,25 @@ fn link(lists: &mut Lists, node: usize, arc: usize)
 }
 
 // Lists each arc at the node from which a step over it starts.
-fn lists_of(nodes: &[Node], arcs: &[Arc], forward: bool) -> Lists
-    requires { Sound nodes.now arcs.now }
-    ensures { Listed (length arcs.now) result }
+fn lists_of(graph: &Graph<'_>, forward: bool) -> Lists
+    ensures { Listed (length graph.now.arcs.now) result }
 {
     let mut lists = Lists {
         firsts: [None; 64],
         nexts: [None; 256],
     };
-    for (a, arc) in arcs.iter().enumerate() {
+    for (a, arc) in graph.arcs.iter().enumerate() {
         link(&mut lists, start_of(arc, forward), a);
     }
     lists
 }
 
 // Lists the arcs at each node.
-pub fn near_of(nodes: &[Node], arcs: &[Arc]) -> Near
-    requires { Sound nodes.now arcs.now }
-    ensures { Nearby (length arcs.now) result }
+pub fn near_of(graph: &Graph<'_>) -> Near
+    ensures { Nearby (length graph.now.arcs.now) result }
 {
     Near {
-        leaving: lists_of(nodes, arcs, true),
-        entering: lists_of(nodes, arcs, false),
+        leaving: lists_of(graph, true),
+        entering: lists_of(graph, false),
     }
 }

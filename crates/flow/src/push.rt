@@ -3,12 +3,15 @@ ghost use Rattle.std.specs.Prelude.{◌≡◌, ℕ, ◌<◌, ◌≤◌, true, []
 ghost use Rattle.cost.specs.Meaning.{Between};
 ghost use Rattle.network.specs.Sums.{counted};
 ghost use Rattle.network.specs.Network.{surplus};
-ghost use Rattle.network.specs.Records.{net_of, numbers};
+ghost use Rattle.network.specs.Graphs.{net_in};
+ghost use Rattle.network.specs.Records.{numbers};
+ghost use Rattle.flow.specs.Spans.{low_of, high_of};
 ghost use Rattle.flow.specs.Within.{Ready};
 ghost use Rattle.flow.specs.Labels.{label_of, reached_in, Labelled};
 
 use crate::reach::Label;
-use network::records::{Arc, Node};
+use crate::spans::Span;
+use network::graph::Graph;
 
 // Changes the load of the arc of a step by an amount, in the direction of the step.
 fn shift(loads: &mut [i64], arc: usize, forward: bool, by: i64)
@@ -26,27 +29,25 @@ fn shift(loads: &mut [i64], arc: usize, forward: bool, by: i64)
 
 // Pushes an amount to a node along the way on which it was reached, and answers the node where that way starts.
 pub(crate) fn push(
-    nodes: &[Node],
-    arcs: &[Arc],
-    lows: &[i64],
-    highs: &[i64],
+    graph: &Graph<'_>,
+    spans: &[Span],
     loads: &mut [i64],
     labels: &[Label],
     target: usize,
     by: i64,
 ) -> usize
-    requires ready { Ready nodes.now arcs.now lows.now highs.now loads.old }
-    requires labels { Labelled (net_of nodes.now arcs.now []) (numbers lows.now) (numbers highs.now) (numbers loads.old) labels.now }
-    requires place { target < length nodes.now }
+    requires ready { Ready graph.now spans.now loads.old }
+    requires labels { Labelled (net_in graph.now []) (low_of spans.now) (high_of spans.now) (numbers loads.old) labels.now }
+    requires place { target < length graph.now.nodes.now }
     requires reached { reached_in labels.now target ≡ true }
     requires sign { pos 0 ≤ℤ by }
     requires amount { by ≤ℤ (label_of labels.now target).width }
-    ensures ready { Ready nodes.now arcs.now lows.now highs.now loads.new }
-    ensures place { result < length nodes.now }
+    ensures ready { Ready graph.now spans.now loads.new }
+    ensures place { result < length graph.now.nodes.now }
     ensures reached { reached_in labels.now result ≡ true }
     ensures first { (label_of labels.now result).order ≡ 0 }
     ensures amount { by ≤ℤ (label_of labels.now result).width }
-    ensures moved { (v : ℕ) → v < length nodes.now → surplus (net_of nodes.now arcs.now []) (numbers loads.new) v ≡ surplus (net_of nodes.now arcs.now []) (numbers loads.old) v +ℤ counted (target == v) by -ℤ counted (result == v) by }
+    ensures moved { (v : ℕ) → v < length graph.now.nodes.now → surplus (net_in graph.now []) (numbers loads.new) v ≡ surplus (net_in graph.now []) (numbers loads.old) v +ℤ counted (target == v) by -ℤ counted (result == v) by }
 {
     let mut node = target;
     while labels[node].order > 0 {

@@ -1,11 +1,15 @@
 // Which nodes can be reached from those of positive surplus, over steps that the loads leave open.
-ghost use Rattle.std.specs.Prelude.{◌≡◌, ℕ, ◌+◌, ◌<◌, ◌≤◌, true, false, [], length, pos, ◌≤ℤ◌, ◌<ℤ◌, if◌then◌else◌, MatchOption, slice_set};
-ghost use Rattle.network.specs.Network.{surplus};
-ghost use Rattle.network.specs.Records.{net_of, numbers, Sound};
-ghost use Rattle.flow.specs.Within.{Ready, Held};
-ghost use Rattle.flow.specs.Labels.{label_of, reached_in, unreached, source, extends, onward, Labelled, ClosedIn};
 
-use network::records::{Arc, Node};
+ghost use Rattle.std.specs.Prelude.{◌≡◌, ℕ, ◌<◌, ◌≤◌, true, false, [], length, pos, ◌≤ℤ◌, ◌<ℤ◌, if◌then◌else◌, MatchOption, slice_set};
+ghost use Rattle.network.specs.Graphs.{net_in};
+ghost use Rattle.network.specs.Records.{numbers};
+ghost use Rattle.flow.specs.Spans.{low_of, high_of};
+ghost use Rattle.flow.specs.Labels.{label_of, reached_in, unreached, source, extends, onward, start_of, end_of, room_on, LabelledOn, ClosedOn};
+
+use crate::loaded::Loaded;
+use crate::near::{end_of, start_of};
+use crate::spans::Span;
+use network::graph::Graph;
 
 // How a node was reached: over which arc, in which direction, from which node, after how many steps, and how much can come to it.
 #[derive(Clone, Copy)]
@@ -28,7 +32,7 @@ pub const BLANK: Label = Label {
 };
 
 // Reaches a node from another over a step with room, unless it was reached before.
-pub(crate) fn extend(
+fn extend(
     labels: &mut [Label],
     from: usize,
     to: usize,
@@ -58,38 +62,13 @@ pub(crate) fn extend(
     true
 }
 
-// One pass over the arcs that reaches further nodes over steps with room; answers whether there were any.
-pub(crate) fn spread(
-    nodes: &[Node],
-    arcs: &[Arc],
-    lows: &[i64],
-    highs: &[i64],
-    loads: &[i64],
-    labels: &mut [Label],
-) -> bool
-    requires ready { Ready nodes.now arcs.now lows.now highs.now loads.now }
-    requires labels { Labelled (net_of nodes.now arcs.now []) (numbers lows.now) (numbers highs.now) (numbers loads.now) labels.old }
-    ensures labelled { Labelled (net_of nodes.now arcs.now []) (numbers lows.now) (numbers highs.now) (numbers loads.now) labels.new }
-    ensures further { result ≡ true → unreached (length nodes.now) labels.new < unreached (length nodes.now) labels.old }
-    ensures closed { result ≡ false → (a : ℕ) → a < length arcs.now → ClosedIn (net_of nodes.now arcs.now []) (numbers lows.now) (numbers highs.now) (numbers loads.now) labels.old a }
-    ensures same { result ≡ false → labels.new ≡ labels.old }
-{
-    let mut further = false;
-    for (a, arc) in arcs.iter().enumerate() {
-        let along = extend(labels, arc.tail, arc.head, a, true, highs[a] - loads[a]);
-        let against = extend(labels, arc.head, arc.tail, a, false, loads[a] - lows[a]);
-        further = further | along | against;
-    }
-    further
-}
-
 // Labels the nodes of positive surplus as reached, each with its surplus, and no other node.
-pub(crate) fn label_sources(nodes: &[Node], surpluses: &[i64], labels: &mut [Label])
-    requires told { length nodes.now ≤ length surpluses.now }
-    requires long { length nodes.now ≤ length labels.old }
-    ensures { (v : ℕ) → v < length nodes.now → label_of labels.new v ≡ source (numbers surpluses.now v) }
+pub(crate) fn label_sources(graph: &Graph<'_>, surpluses: &[i64], labels: &mut [Label])
+    requires told { length graph.now.nodes.now ≤ length surpluses.now }
+    requires long { length graph.now.nodes.now ≤ length labels.old }
+    ensures { (v : ℕ) → v < length graph.now.nodes.now → label_of labels.new v ≡ source (numbers surpluses.now v) }
 {
-    for v in 0..nodes.len() {
+    for v in 0..graph.nodes.len() {
         labels[v] = Label {
             reached: surpluses[v] > 0,
             order: 0,
@@ -102,12 +81,12 @@ pub(crate) fn label_sources(nodes: &[Node], surpluses: &[i64], labels: &mut [Lab
 }
 
 // A node that was reached and has a negative surplus.
-pub(crate) fn first_short(nodes: &[Node], surpluses: &[i64], labels: &[Label]) -> Option<usize>
-    requires told { length nodes.now ≤ length surpluses.now }
-    requires long { length nodes.now ≤ length labels.now }
-    ensures { MatchOption result ((v : ℕ) → v < length nodes.now → reached_in labels.now v ≡ true → pos 0 ≤ℤ numbers surpluses.now v) (λ v. (v < length nodes.now) × (reached_in labels.now v ≡ true) × (numbers surpluses.now v <ℤ pos 0)) }
+pub(crate) fn first_short(graph: &Graph<'_>, surpluses: &[i64], labels: &[Label]) -> Option<usize>
+    requires told { length graph.now.nodes.now ≤ length surpluses.now }
+    requires long { length graph.now.nodes.now ≤ length labels.now }
+    ensures { MatchOption result ((v : ℕ) → v < length graph.now.nodes.now → reached_in labels.now v ≡ true → pos 0 ≤ℤ numbers surpluses.now v) (λ v. (v < length graph.now.nodes.now) × (reached_in labels.now v ≡ true) × (numbers surpluses.now v <ℤ pos 0)) }
 {
-    for v in 0..nodes.len() {
+    for v in 0..graph.nodes.len() {
         if labels[v].reached && surpluses[v] < 0 {
             return Some(v);
         }
@@ -116,11 +95,11 @@ pub(crate) fn first_short(nodes: &[Node], surpluses: &[i64], labels: &[Label]) -
 }
 
 // A node of positive surplus.
-pub(crate) fn first_over(nodes: &[Node], surpluses: &[i64]) -> Option<usize>
-    requires told { length nodes.now ≤ length surpluses.now }
-    ensures { MatchOption result ((v : ℕ) → v < length nodes.now → numbers surpluses.now v ≤ℤ pos 0) (λ v. (v < length nodes.now) × (pos 0 <ℤ numbers surpluses.now v)) }
+pub(crate) fn first_over(graph: &Graph<'_>, surpluses: &[i64]) -> Option<usize>
+    requires told { length graph.now.nodes.now ≤ length surpluses.now }
+    ensures { MatchOption result ((v : ℕ) → v < length graph.now.nodes.now → numbers surpluses.now v ≤ℤ pos 0) (λ v. (v < length graph.now.nodes.now) × (pos 0 <ℤ numbers surpluses.now v)) }
 {
-    for v in 0..nodes.len() {
+    for v in 0..graph.nodes.len() {
         if surpluses[v] > 0 {
             return Some(v);
         }
@@ -128,28 +107,68 @@ pub(crate) fn first_over(nodes: &[Node], surpluses: &[i64]) -> Option<usize>
     None
 }
 
-// Spreads until a node of negative surplus is reached, or no step with room leads further.
-pub(crate) fn reach(
-    nodes: &[Node],
-    arcs: &[Arc],
-    lows: &[i64],
-    highs: &[i64],
-    loads: &[i64],
-    surpluses: &[i64],
-    labels: &mut [Label],
-) -> Option<usize>
-    requires ready { Ready nodes.now arcs.now lows.now highs.now loads.now }
-    requires told { length nodes.now ≤ length surpluses.now }
-    requires labels { Labelled (net_of nodes.now arcs.now []) (numbers lows.now) (numbers highs.now) (numbers loads.now) labels.old }
-    ensures labelled { Labelled (net_of nodes.now arcs.now []) (numbers lows.now) (numbers highs.now) (numbers loads.now) labels.new }
-    ensures found { MatchOption result (((a : ℕ) → a < length arcs.now → ClosedIn (net_of nodes.now arcs.now []) (numbers lows.now) (numbers highs.now) (numbers loads.now) labels.new a) × ((v : ℕ) → v < length nodes.now → reached_in labels.new v ≡ true → pos 0 ≤ℤ numbers surpluses.now v)) (λ v. (v < length nodes.now) × (reached_in labels.new v ≡ true) × (numbers surpluses.now v <ℤ pos 0)) }
+// By how much a load can change in the direction of a step.
+fn room_on(forward: bool, span: Span, load: i64) -> i64
+    requires from { pos 0 ≤ℤ span.low }
+    requires above { span.low ≤ℤ load }
+    requires under { load ≤ℤ span.high }
+    requires to { span.high ≤ℤ pos 10000 }
+    ensures { result ≡ room_on forward span.low span.high load }
 {
-    loop {
-        if let Some(node) = first_short(nodes, surpluses, labels) {
-            return Some(node);
+    if forward {
+        span.high - load
+    } else {
+        load - span.low
+    }
+}
+
+impl Loaded<'_> {
+    // Tries a step over an arc, along it or against it; answers whether it reaches a node more.
+    pub(crate) fn step_over(&self, arc: usize, forward: bool, labels: &mut [Label]) -> bool
+        requires place { arc < length self.now.graph.arcs.now }
+        requires labels { LabelledOn self.now labels.old }
+        ensures labelled { LabelledOn self.now labels.new }
+        ensures further { result ≡ true → unreached (length self.now.graph.nodes.now) labels.new < unreached (length self.now.graph.nodes.now) labels.old }
+        ensures same { result ≡ false → labels.new ≡ labels.old }
+        ensures shut { result ≡ false → reached_in labels.old (start_of (net_in self.now.graph []) forward arc) ≡ true → pos 0 <ℤ room_on forward (low_of self.now.spans.now arc) (high_of self.now.spans.now arc) (numbers self.now.loads.now arc) → reached_in labels.old (end_of (net_in self.now.graph []) forward arc) ≡ true }
+    {
+        let from = start_of(&self.graph.arcs[arc], forward);
+        let to = end_of(&self.graph.arcs[arc], forward);
+        let room = room_on(forward, self.spans[arc], self.loads[arc]);
+        extend(labels, from, to, arc, forward, room)
+    }
+
+    // One pass over the arcs that reaches further nodes over steps with room; answers whether there were any.
+    fn spread(&self, labels: &mut [Label]) -> bool
+        requires { LabelledOn self.now labels.old }
+        ensures labelled { LabelledOn self.now labels.new }
+        ensures further { result ≡ true → unreached (length self.now.graph.nodes.now) labels.new < unreached (length self.now.graph.nodes.now) labels.old }
+        ensures closed { result ≡ false → (a : ℕ) → a < length self.now.graph.arcs.now → ClosedOn self.now labels.old a }
+        ensures same { result ≡ false → labels.new ≡ labels.old }
+    {
+        let mut further = false;
+        for arc in 0..self.graph.arcs.len() {
+            let along = self.step_over(arc, true, labels);
+            let against = self.step_over(arc, false, labels);
+            further = further | along | against;
         }
-        if !spread(nodes, arcs, lows, highs, loads, labels) {
-            return None;
+        further
+    }
+
+    // Spreads until a node of negative surplus is reached, or no step with room leads further.
+    pub(crate) fn reach(&self, surpluses: &[i64], labels: &mut [Label]) -> Option<usize>
+        requires told { length self.now.graph.nodes.now ≤ length surpluses.now }
+        requires labels { LabelledOn self.now labels.old }
+        ensures labelled { LabelledOn self.now labels.new }
+        ensures found { MatchOption result (((a : ℕ) → a < length self.now.graph.arcs.now → ClosedOn self.now labels.new a) × ((v : ℕ) → v < length self.now.graph.nodes.now → reached_in labels.new v ≡ true → pos 0 ≤ℤ numbers surpluses.now v)) (λ v. (v < length self.now.graph.nodes.now) × (reached_in labels.new v ≡ true) × (numbers surpluses.now v <ℤ pos 0)) }
+    {
+        loop {
+            if let Some(node) = first_short(&self.graph, surpluses, labels) {
+                return Some(node);
+            }
+            if !self.spread(labels) {
+                return None;
+            }
         }
     }
 }

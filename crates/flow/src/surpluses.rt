@@ -2,10 +2,11 @@
 ghost use Rattle.std.specs.Prelude.{◌≡◌, ℕ, ◌<◌, ◌≤◌, [], length, pos, negsuc, ◌+ℤ◌, ◌-ℤ◌, ◌==◌};
 ghost use Rattle.cost.specs.Meaning.{Between};
 ghost use Rattle.network.specs.Sums.{counted};
-ghost use Rattle.network.specs.Records.{net_of, numbers as at, Sound};
+ghost use Rattle.network.specs.Records.{net_of, numbers as at};
 ghost use Rattle.flow.specs.Surpluses.{Tells};
 
-use network::records::{Arc, Node};
+use network::graph::Graph;
+use network::records::Node;
 
 // Writes down the supply of each node.
 fn supplies_of(nodes: &[Node], supplies: &mut [i64])
@@ -40,15 +41,14 @@ pub(crate) fn transfer(numbers: &mut [i64], from: usize, to: usize, by: i64)
 }
 
 // Writes down the surplus of each node: its supply, with each load added at the head of its arc and taken off at the tail.
-pub(crate) fn surpluses_of(nodes: &[Node], arcs: &[Arc], loads: &[i64], surpluses: &mut [i64])
-    requires sound { Sound nodes.now arcs.now }
-    requires loaded { length arcs.now ≤ length loads.now }
-    requires limits { (a : ℕ) → a < length arcs.now → Between (pos 0) (pos 10000) (at loads.now a) }
-    requires long { length nodes.now ≤ length surpluses.old }
-    ensures { Tells nodes.now arcs.now loads.now surpluses.new }
+pub(crate) fn surpluses_of(graph: &Graph<'_>, loads: &[i64], surpluses: &mut [i64])
+    requires loaded { length graph.now.arcs.now ≤ length loads.now }
+    requires limits { (a : ℕ) → a < length graph.now.arcs.now → Between (pos 0) (pos 10000) (at loads.now a) }
+    requires long { length graph.now.nodes.now ≤ length surpluses.old }
+    ensures { Tells graph.now loads.now surpluses.new }
 {
-    supplies_of(nodes, surpluses);
-    for (a, arc) in arcs.iter().enumerate() {
-        transfer(surpluses, arc.tail, arc.head, loads[a]);
+    supplies_of(graph.nodes, surpluses);
+    for (arc, load) in graph.arcs.iter().zip(loads) {
+        transfer(surpluses, arc.tail, arc.head, *load);
     }
 }

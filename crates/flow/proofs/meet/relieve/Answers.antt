@@ -1,60 +1,63 @@
 -- A way is found, along which an amount is pushed and noted; or no way is found.
-use Rattle.std.proofs.Common.{pos, ◌-ℤ◌, arith, w64, SFits, rules}
+use Rattle.std.proofs.Common.{[], pos, ◌-ℤ◌, arith, w64, SFits, rules}
 use Rattle.std.proofs.lemmas.Int.{ints, to_z-of_z}
-use Rattle.std.proofs.lemmas.Bool.{false≢true, true≢false}
+use Rattle.network.specs.Graphs.{net_in}
+use Rattle.network.proofs.Nets.{sound_ends}
+use Rattle.network.proofs.Graphs.{graph_sound}
+use Rattle.flow.specs.Sets.{member}
 use Rattle.network.specs.Records.{numbers}
-use Rattle.flow.specs.Labels.{label_of}
-use Rattle.flow.proofs.Relief.{labelled_sources, bars, amount, surplus_limit, relieved}
+use Rattle.flow.specs.Labels.{label_of, reached_in}
+use Rattle.flow.proofs.Relief.{over_full_alike, labelled_sources, bars, amount, surplus_limit, relieved}
 use Rattle.flow.proofs.meet.relieve.Goals as goal
 
 pub explore-requires : goal.explore-requires
 explore-requires c = record {
-  ready = c.requires.ready;
   told = c.requires.tells.long;
   near = c.requires.near;
-  labels = labelled_sources c.args.nodes.now c.args.arcs.now c.args.lows.now c.args.highs.now c.args.loads.now c.args.surpluses.now c.requires.ready c.requires.tells
+  labels = labelled_sources c.args.graph.now c.args.spans.now c.args.loads.now c.args.surpluses.now c.requires.ready c.requires.tells
       c.label_sources.new.labels (omega arith) c.label_sources.ensures;
 }
 
 pub reach-requires : goal.reach-requires
-reach-requires c = record { ready = c.requires.ready; told = c.requires.tells.long; labels = c.explore.ensures }
+reach-requires c = record { told = c.requires.tells.long; labels = c.explore.ensures }
 
 pub returns-in_default : goal.returns-in_default
 returns-in_default c = record {
   ready = c.requires.ready;
   tells = c.requires.tells;
-  less = λ e. absurd (false≢true e);
-  barred = λ _.
+  less = tt;
+  barred =
       let none = c.in_default.ensures.found in
-      bars c.args.nodes.now c.args.arcs.now c.args.lows.now c.args.highs.now c.args.loads.now c.args.surpluses.now c.requires.ready c.requires.tells c.reach.new.labels c.reach.ensures.labelled c.args.over c.requires.place c.requires.above none.0 none.1;
+      over_full_alike (net_in c.args.graph.now []) _ _ (reached_in c.reach.new.labels) (member c.reached_of.result)
+      (sound_ends c.args.graph.now.nodes.now c.args.graph.now.arcs.now [] (graph_sound c.args.graph.now)) c.reached_of.ensures (bars c.args.graph.now c.args.spans.now c.args.loads.now c.args.surpluses.now c.requires.ready c.requires.tells c.reach.new.labels c.reach.ensures.labelled c.args.over c.requires.place c.requires.above none.0 none.1);
 }
 
 pub overflow_sub-surpluses : goal.overflow_sub-surpluses
 overflow_sub-surpluses c =
-    let limit = surplus_limit c.args.nodes.now c.args.arcs.now c.args.lows.now c.args.highs.now c.args.loads.now c.args.surpluses.now c.requires.ready c.requires.tells c.in-Some.target c.in-Some.ensures.found.0 in
+    let limit = surplus_limit c.args.graph.now c.args.spans.now c.args.loads.now c.args.surpluses.now c.requires.ready c.requires.tells c.in-Some.target c.in-Some.ensures.found.0 in
     omega (arith, ints)
 
 pub push-start-requires : goal.push-start-requires
 push-start-requires c =
     let found = c.in-Some.ensures.found in
-    let limit = surplus_limit c.args.nodes.now c.args.arcs.now c.args.lows.now c.args.highs.now c.args.loads.now c.args.surpluses.now c.requires.ready c.requires.tells c.in-Some.target found.0 in
+    let limit = surplus_limit c.args.graph.now c.args.spans.now c.args.loads.now c.args.surpluses.now c.requires.ready c.requires.tells c.in-Some.target found.0 in
     let width : SFits w64 (label_of c.reach.new.labels c.in-Some.target).width = search rules in
     let here : SFits w64 (numbers c.args.surpluses.now c.in-Some.target) = omega (arith, ints) in
     let turned : SFits w64 (pos 0 -ℤ numbers c.args.surpluses.now c.in-Some.target) = omega (arith, ints) in
-    let enough = amount c.args.nodes.now c.args.arcs.now c.args.lows.now c.args.highs.now c.args.loads.now c.args.surpluses.now c.requires.ready c.requires.tells c.reach.new.labels c.reach.ensures.labelled c.in-Some.target found.0 found.1 found.2
+    let enough = amount c.args.graph.now c.args.spans.now c.args.loads.now c.args.surpluses.now c.requires.ready c.requires.tells c.reach.new.labels c.reach.ensures.labelled c.in-Some.target found.0 found.1 found.2
     c.min-by.result (simp to_z-of_z at c.min-by.ensures.value) in
     record { ready = c.requires.ready; labels = c.reach.ensures.labelled; place = found.0; reached = found.1; sign = omega (arith, ints, enough.sign); amount = omega (arith, ints, enough.fits) }
 
 pub transfer-requires : goal.transfer-requires
 transfer-requires c =
     let found = c.in-Some.ensures.found in
-    let limit = surplus_limit c.args.nodes.now c.args.arcs.now c.args.lows.now c.args.highs.now c.args.loads.now c.args.surpluses.now c.requires.ready c.requires.tells c.in-Some.target found.0 in
+    let limit = surplus_limit c.args.graph.now c.args.spans.now c.args.loads.now c.args.surpluses.now c.requires.ready c.requires.tells c.in-Some.target found.0 in
     let width : SFits w64 (label_of c.reach.new.labels c.in-Some.target).width = search rules in
     let here : SFits w64 (numbers c.args.surpluses.now c.in-Some.target) = omega (arith, ints) in
     let turned : SFits w64 (pos 0 -ℤ numbers c.args.surpluses.now c.in-Some.target) = omega (arith, ints) in
-    let enough = amount c.args.nodes.now c.args.arcs.now c.args.lows.now c.args.highs.now c.args.loads.now c.args.surpluses.now c.requires.ready c.requires.tells c.reach.new.labels c.reach.ensures.labelled c.in-Some.target found.0 found.1 found.2
+    let enough = amount c.args.graph.now c.args.spans.now c.args.loads.now c.args.surpluses.now c.requires.ready c.requires.tells c.reach.new.labels c.reach.ensures.labelled c.in-Some.target found.0 found.1 found.2
     c.min-by.result (simp to_z-of_z at c.min-by.ensures.value) in
-    let start = surplus_limit c.args.nodes.now c.args.arcs.now c.args.lows.now c.args.highs.now c.args.loads.now c.args.surpluses.now c.requires.ready c.requires.tells c.push-start.result c.push-start.ensures.place in
+    let start = surplus_limit c.args.graph.now c.args.spans.now c.args.loads.now c.args.surpluses.now c.requires.ready c.requires.tells c.push-start.result c.push-start.ensures.place in
     record {
       from = omega (arith, c.push-start.ensures.place, c.requires.tells.long);
       to = omega (arith, found.0, c.requires.tells.long);
@@ -65,14 +68,14 @@ transfer-requires c =
 pub returns : goal.returns
 returns c =
     let found = c.in-Some.ensures.found in
-    let limit = surplus_limit c.args.nodes.now c.args.arcs.now c.args.lows.now c.args.highs.now c.args.loads.now c.args.surpluses.now c.requires.ready c.requires.tells c.in-Some.target found.0 in
+    let limit = surplus_limit c.args.graph.now c.args.spans.now c.args.loads.now c.args.surpluses.now c.requires.ready c.requires.tells c.in-Some.target found.0 in
     let width : SFits w64 (label_of c.reach.new.labels c.in-Some.target).width = search rules in
     let here : SFits w64 (numbers c.args.surpluses.now c.in-Some.target) = omega (arith, ints) in
     let turned : SFits w64 (pos 0 -ℤ numbers c.args.surpluses.now c.in-Some.target) = omega (arith, ints) in
-    let enough = amount c.args.nodes.now c.args.arcs.now c.args.lows.now c.args.highs.now c.args.loads.now c.args.surpluses.now c.requires.ready c.requires.tells c.reach.new.labels c.reach.ensures.labelled c.in-Some.target found.0 found.1 found.2
+    let enough = amount c.args.graph.now c.args.spans.now c.args.loads.now c.args.surpluses.now c.requires.ready c.requires.tells c.reach.new.labels c.reach.ensures.labelled c.in-Some.target found.0 found.1 found.2
     c.min-by.result (simp to_z-of_z at c.min-by.ensures.value) in
     let fits : SFits w64 c.min-by.result = omega (arith, ints, enough.sign, enough.limit) in
-    let done = relieved c.args.nodes.now c.args.arcs.now c.args.lows.now c.args.highs.now c.args.loads.now c.args.surpluses.now c.requires.ready c.requires.tells c.reach.new.labels c.reach.ensures.labelled c.in-Some.target found.0 found.1 found.2
+    let done = relieved c.args.graph.now c.args.spans.now c.args.loads.now c.args.surpluses.now c.requires.ready c.requires.tells c.reach.new.labels c.reach.ensures.labelled c.in-Some.target found.0 found.1 found.2
     c.min-by.result enough c.push-start.new.loads c.transfer.new.numbers c.push-start.result c.push-start.ensures.place c.push-start.ensures.reached c.push-start.ensures.first
     (omega (arith, ints, c.push-start.ensures.amount)) (simp to_z-of_z at c.push-start.ensures.moved) (omega arith) (simp to_z-of_z at c.transfer.ensures) in
-    record { ready = c.push-start.ensures.ready; tells = done.telling; less = λ _. done.less; barred = λ e. absurd (true≢false e) }
+    record { ready = c.push-start.ensures.ready; tells = done.telling; less = done.less; barred = tt }

@@ -8,13 +8,13 @@ loop-a-init c = record { firsts_long = refl; nexts_long = refl; firsts_below = Î
 
 pub link-requires : goal.link-requires
 link-requires c =
-    let tail = c.requires.tails c.loop-a.a (omega arith) in
-    let head = c.requires.heads c.loop-a.a (omega arith) in
-    record { node = omega (arith, either c.args.forward _ _ (length c.args.nodes.now) tail head, c.requires.node_limit, c.start_of.ensures); arc = omega (arith, c.requires.arc_limit) }
+    let tail = c.args.graph.now.tails c.loop-a.a (omega arith) in
+    let head = c.args.graph.now.heads c.loop-a.a (omega arith) in
+    record { node = omega (arith, either c.args.forward _ _ (length c.args.graph.now.nodes.now) tail head, c.args.graph.now.few_nodes, c.start_of.ensures); arc = omega (arith, c.args.graph.now.few_arcs) }
 
 pub loop-a-preserved : goal.loop-a-preserved
 loop-a-preserved c =
-    let tail = c.requires.tails c.loop-a.a (omega arith) in
-    let head = c.requires.heads c.loop-a.a (omega arith) in
+    let tail = c.args.graph.now.tails c.loop-a.a (omega arith) in
+    let head = c.args.graph.now.heads c.loop-a.a (omega arith) in
     listed_more c.loop-a.a c.start_of.result c.loop-a.lists c.link.new.lists c.loop-a.invariant
-    (omega (arith, either c.args.forward _ _ (length c.args.nodes.now) tail head, c.requires.node_limit, c.start_of.ensures)) (omega (arith, c.requires.arc_limit)) c.link.ensures.firsts c.link.ensures.nexts
+    (omega (arith, either c.args.forward _ _ (length c.args.graph.now.nodes.now) tail head, c.args.graph.now.few_nodes, c.start_of.ensures)) (omega (arith, c.args.graph.now.few_arcs)) c.link.ensures.firsts c.link.ensures.nexts

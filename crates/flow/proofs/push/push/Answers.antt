@@ -7,13 +7,13 @@ use Rattle.flow.proofs.push.push.Goals as goal
 pub loop-node-init : goal.loop-node-init
 loop-node-init c =
     let fits = c.ranges.by in
-    simp to_z-of_z (push_starts c.args.nodes.now c.args.arcs.now c.args.lows.now c.args.highs.now c.args.loads.now c.args.labels.now c.args.target c.args.by
+    simp to_z-of_z (push_starts c.args.graph.now c.args.spans.now c.args.loads.now c.args.labels.now c.args.target c.args.by
     c.requires.labels c.requires.sign c.requires.ready c.requires.place c.requires.reached c.requires.amount)
 
 pub shift-requires : goal.shift-requires
 shift-requires c =
     let fits = c.ranges.by in
-    let on = shifts c.args.nodes.now c.args.arcs.now c.args.lows.now c.args.highs.now c.args.loads.now c.args.labels.now c.args.target c.args.by
+    let on = shifts c.args.graph.now c.args.spans.now c.args.loads.now c.args.labels.now c.args.target c.args.by
     c.requires.labels c.requires.sign c.loop-node.loads c.loop-node.node (simp to_z-of_z at c.loop-node.invariant) (omega arith) in
     simp to_z-of_z (record { place = on.place; limits = on.limits; amount = on.amount })
 
@@ -21,5 +21,5 @@ pub loop-node-preserved : goal.loop-node-preserved
 loop-node-preserved c =
     let fits = c.ranges.by in
     let is = simp to_z-of_z at c.shift.ensures in
-    simp (to_z-of_z, is) (push_on c.args.nodes.now c.args.arcs.now c.args.lows.now c.args.highs.now c.args.loads.now c.args.labels.now c.args.target c.args.by
+    simp (to_z-of_z, is) (push_on c.args.graph.now c.args.spans.now c.args.loads.now c.args.labels.now c.args.target c.args.by
     c.requires.labels c.requires.sign c.loop-node.loads c.loop-node.node (simp to_z-of_z at c.loop-node.invariant) (omega arith))

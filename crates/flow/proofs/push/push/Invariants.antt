@@ -4,7 +4,7 @@ use Rattle.flow.proofs.Pushes.{Pushing}
 use Rattle.flow.proofs.push.push.Given as goal
 
 abbrev pub invariant-loop-node : goal.invariant-loop-node
-invariant-loop-node l = Pushing l.nodes l.arcs l.lows l.highs l.initial.loads l.labels l.target l.by l.loads l.node
+invariant-loop-node l = Pushing l.graph l.spans l.initial.loads l.labels l.target l.by l.loads l.node
 
 abbrev pub decreases-loop-node : goal.decreases-loop-node
 decreases-loop-node l = (label_of l.labels l.node).order

@@ -2,16 +2,16 @@
 use Rattle.std.proofs.Common.{length, arith}
 use Rattle.flow.proofs.Stepping.{end_in}
 use Rattle.flow.proofs.Queuing.{joined}
-use Rattle.flow.proofs.explore.advance.Goals as goal
+use Rattle.flow.proofs.loaded.Loaded.advance.Goals as goal
 
 pub add-requires : goal.add-requires
-add-requires c = omega (arith, c.step_over.ensures.further c.if-step_over.true, c.requires.queued.room, c.requires.ready.sound.node_limit)
+add-requires c = omega (arith, c.step_over.ensures.further c.if-step_over.true, c.requires.queued.room, c.args.self.now.graph.few_nodes)
 
 pub returns-then-step_over : goal.returns-then-step_over
 returns-then-step_over c = record {
   labelled = c.step_over.ensures.labelled;
   queued = joined c.args.labels.now c.args.queue.now c.add.new.queue c.end_of.result c.add.ensures.count c.add.ensures.places
-      (length c.args.nodes.now) c.step_over.new.labels c.requires.ready.sound.node_limit
-      (omega (arith, c.end_of.ensures, end_in c.args.nodes.now c.args.arcs.now c.args.lows.now c.args.highs.now c.args.loads.now c.requires.ready c.args.arc c.requires.place c.args.forward))
+      (length c.args.self.now.graph.nodes.now) c.step_over.new.labels c.args.self.now.graph.few_nodes
+      (omega (arith, c.end_of.ensures, end_in c.args.self.now c.args.arc c.requires.place c.args.forward))
       c.requires.queued (c.step_over.ensures.further c.if-step_over.true);
 }

@@ -1,0 +1,17 @@
+-- Each arc is tried along and against its direction.
+use Rattle.flow.proofs.Marks.{stepped, step_on, pass_on, pass_starts}
+use Rattle.flow.proofs.loaded.Loaded.spread.Goals as goal
+
+pub loop-arc-init : goal.loop-arc-init
+loop-arc-init c = pass_starts _ _ _ _ _ c.requires
+
+pub step_over-along-requires-clause-labels : goal.step_over-along-requires-clause-labels
+step_over-along-requires-clause-labels c = c.loop-arc.invariant.grown.labelled
+
+pub loop-arc-preserved : goal.loop-arc-preserved
+loop-arc-preserved c =
+    let one = c.step_over-along.ensures in
+    let two = c.step_over-against.ensures in
+    let over = step_on _ _ _ _ _ _ _ _ _ _ _ _ c.loop-arc.invariant.grown (stepped _ _ _ _ _ _ _ _ _ _ one.labelled one.further one.same one.shut) in
+    let back = step_on _ _ _ _ _ _ _ _ _ _ _ _ over.grown (stepped _ _ _ _ _ _ _ _ _ _ two.labelled two.further two.same two.shut) in
+    pass_on _ _ _ _ _ _ _ _ _ _ _ c.loop-arc.arc c.loop-arc.invariant over back
