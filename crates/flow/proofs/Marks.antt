@@ -7,7 +7,7 @@ use Rattle.std.proofs.lemmas.Bool.{cases_eq, and_parts, not-true, both_ways, or_
 use Rattle.network.specs.Network.{Net, surplus}
 use Rattle.flow.specs.declared.reach.Label.{Label}
 use Rattle.flow.specs.Labels.{no_label, label_of, reached_in, unreached, end_of, start_of, room_on, extends, onward, Stepped, Labelled, ClosedIn}
-use Rattle.flow.proofs.Counts.{count_more}
+use Rattle.network.proofs.Counts.{count_more}
 
 module _ (net : Net) (low high load : ℕ → ℤ) (labels : List Label) (labelled : Labelled net low high load labels)
     (forward : Bool) (a from to : ℕ) (room : ℤ) (arc_in : a < net.arcs) (from_in : from < net.nodes) (to_in : to < net.nodes)

@@ -4,7 +4,8 @@ use Rattle.std.proofs.lemmas.List.{get_or-set_same, get_or-set_other, length-set
 use Rattle.std.proofs.lemmas.Bool.{cases_eq}
 use Rattle.flow.specs.declared.explore.Queue.{Queue}
 use Rattle.flow.specs.declared.reach.Label.{Label}
-use Rattle.flow.specs.Labels.{count, reached_in, unreached}
+use Rattle.network.specs.Sums.{count}
+use Rattle.flow.specs.Labels.{reached_in, unreached}
 use Rattle.flow.specs.Queues.{Queued}
 
 count_next : (n : ℕ) (test : ℕ → Bool) → count (n + 1) test ≡ count n test + cond (test n) 1 0

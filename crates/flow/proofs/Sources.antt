@@ -4,7 +4,7 @@ use Rattle.std.proofs.lemmas.Int.{ints}
 use Rattle.network.specs.Network.{Net, surplus}
 use Rattle.flow.specs.declared.reach.Label.{Label}
 use Rattle.flow.specs.Labels.{label_of, reached_in, source, Labelled}
-use Rattle.flow.proofs.Counts.{count_under}
+use Rattle.network.proofs.Counts.{count_under}
 
 pub sources_labelled : (net : Net) (low high load : ℕ → ℤ) (labels : List Label) → net.nodes ≤ length labels
     → ((v : ℕ) → v < net.nodes → label_of labels v ≡ source (surplus net load v)) → Labelled net low high load labels

@@ -1,6 +1,7 @@
 -- The labels by which a search over the steps left open by the loads notes how it reached each node.
-use Rattle.std.specs.Prelude.{◌≡◌, ℕ, zero, suc, ◌+◌, ◌<◌, ◌≤◌, Bool, true, false, cond, not, ◌&&◌, List, [], length, ℤ, pos, ◌-ℤ◌, ◌≤ℤ◌, ◌<ℤ◌, int_lt, slice_index_or}
+use Rattle.std.specs.Prelude.{◌≡◌, ℕ, ◌+◌, ◌<◌, ◌≤◌, Bool, true, false, cond, not, ◌&&◌, List, [], length, ℤ, pos, ◌-ℤ◌, ◌≤ℤ◌, ◌<ℤ◌, int_lt, slice_index_or}
 use Rattle.std.specs.Int.{int_min}
+pub use Rattle.network.specs.Sums.{count}
 use Rattle.network.specs.Network.{Net, surplus}
 use Rattle.network.specs.Graphs.{net_in}
 use Rattle.network.specs.Records.{numbers}
@@ -19,11 +20,6 @@ label_of labels v = slice_index_or labels v no_label
 -- The nodes that were reached.
 abbrev pub reached_in : List Label → ℕ → Bool
 reached_in labels v = (label_of labels v).reached
-
--- How many of the first n indices pass a test.
-abbrev pub count : ℕ → (ℕ → Bool) → ℕ
-count zero test = 0
-count (suc n) test = count n test + cond (test n) 1 0
 
 -- How many of the first n nodes were not reached.
 abbrev pub unreached : ℕ → List Label → ℕ

@@ -1,5 +1,6 @@
 -- The arcs at each node, in lists.
 use Rattle.std.specs.Prelude.{◌≡◌, ℕ, ◌+◌, ◌≤◌, List, length, Some, None, Option, slice_index_or}
+use Rattle.network.specs.declared.records.TheConstants.{MOST_NODES, MOST_ARCS}
 use Rattle.flow.specs.declared.near.Lists.{Lists}
 use Rattle.flow.specs.declared.near.Near.{Near}
 
@@ -14,8 +15,8 @@ past (Some a) = a + 1
 
 -- The lists have arcs below n only, and after each arc comes one of a lower place.
 pub record Listed (n : ℕ) (lists : Lists) : Type 0 where
-  pub firsts_long : length lists.firsts ≡ 64
-  pub nexts_long : length lists.nexts ≡ 256
+  pub firsts_long : length lists.firsts ≡ MOST_NODES
+  pub nexts_long : length lists.nexts ≡ MOST_ARCS
   pub firsts_below : (v : ℕ) → past (listed_at lists.firsts v) ≤ n
   pub nexts_below : (a : ℕ) → past (listed_at lists.nexts a) ≤ a
 

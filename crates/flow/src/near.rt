@@ -3,13 +3,13 @@ ghost use Rattle.std.specs.Prelude.{◌≡◌, ◌<◌, ◌≤◌, length, if◌
 ghost use Rattle.flow.specs.Near.{Listed, Nearby, listed_at};
 
 use network::graph::Graph;
-use network::records::Arc;
+use network::records::{Arc, MOST_ARCS, MOST_NODES};
 
 // One list of arcs for each node: the first arc of each list, and after each arc the next one of its list.
 #[derive(Clone, Copy)]
 pub struct Lists {
-    pub firsts: [Option<usize>; 64],
-    pub nexts: [Option<usize>; 256],
+    pub firsts: [Option<usize>; MOST_NODES],
+    pub nexts: [Option<usize>; MOST_ARCS],
 }
 
 // The arcs that leave each node, and those that enter it.
@@ -35,8 +35,8 @@ pub(crate) fn end_of(arc: &Arc, forward: bool) -> usize
 
 // Puts an arc before the other arcs in the list of a node.
 fn link(lists: &mut Lists, node: usize, arc: usize)
-    requires node { node < 64 }
-    requires arc { arc < 256 }
+    requires node { node < MOST_NODES }
+    requires arc { arc < MOST_ARCS }
     ensures firsts { lists.new.firsts ≡ slice_set lists.old.firsts node (Some arc) }
     ensures nexts { lists.new.nexts ≡ slice_set lists.old.nexts arc (listed_at lists.old.firsts node) }
 {
@@ -49,8 +49,8 @@ fn lists_of(graph: &Graph<'_>, forward: bool) -> Lists
     ensures { Listed (length graph.now.arcs.now) result }
 {
     let mut lists = Lists {
-        firsts: [None; 64],
-        nexts: [None; 256],
+        firsts: [None; MOST_NODES],
+        nexts: [None; MOST_ARCS],
     };
     for (a, arc) in graph.arcs.iter().enumerate() {
         link(&mut lists, start_of(arc, forward), a);

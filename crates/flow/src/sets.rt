@@ -29,7 +29,7 @@ impl NodeSet {
 
     // Puts a node into the set.
     pub fn insert(&mut self, node: usize)
-        requires { node < 64 }
+        requires { node < MOST_NODES }
         ensures { (v : ℕ) → member self.new v ≡ (node == v || member self.old v) }
     {
         self.members[node] = true;

@@ -1,6 +1,7 @@
 pub mod Products
 pub mod Counted
 pub mod Sums
+pub mod Counts
 pub mod Least
 pub mod Changes
 pub mod Balance

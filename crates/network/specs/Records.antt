@@ -4,6 +4,7 @@ use Rattle.cost.specs.Meaning.{Meaning, empty_cost, in_range, InRange, amount_at
 use Rattle.cost.specs.Places.{first_place}
 use Rattle.network.specs.Sums.{sum}
 use Rattle.network.specs.Network.{Net, surplus}
+use Rattle.network.specs.declared.records.TheConstants.{MOST_NODES, MOST_ARCS}
 use Rattle.network.specs.declared.records.Node.{Node}
 use Rattle.network.specs.declared.records.Arc.{Arc}
 
@@ -36,8 +37,8 @@ net_of nodes arcs costs = record {
 
 -- The limits that every network keeps.
 pub record Sound (nodes : List Node) (arcs : List Arc) : Type 0 where
-  pub node_limit : length nodes ≤ 64
-  pub arc_limit : length arcs ≤ 256
+  pub node_limit : length nodes ≤ MOST_NODES
+  pub arc_limit : length arcs ≤ MOST_ARCS
   pub tails : (a : ℕ) → a < length arcs → (get_or arcs a no_arc).tail < length nodes
   pub heads : (a : ℕ) → a < length arcs → (get_or arcs a no_arc).head < length nodes
   pub supply_limit : (v : ℕ) → v < length nodes → Between (negsuc 99999) (pos 100000) (get_or nodes v no_node).supply

@@ -1,5 +1,5 @@
--- Sums and least values over the indices from 0 on.
-use Rattle.std.specs.Prelude.{ℕ, zero, suc, Bool, cond, ℤ, pos, ◌+ℤ◌}
+-- Sums, counts and least values over the indices from 0 on.
+use Rattle.std.specs.Prelude.{ℕ, zero, suc, ◌+◌, Bool, cond, ℤ, pos, ◌+ℤ◌}
 use Rattle.std.specs.Int.{int_min}
 
 -- The sum f 0 + f 1 + .. + f (n - 1).
@@ -15,3 +15,8 @@ least_of (suc n) f = int_min (least_of n f) (f (suc n))
 -- A number that counts only where the condition holds, and is 0 elsewhere.
 abbrev pub counted : Bool → ℤ → ℤ
 counted condition x = cond condition x (pos 0)
+
+-- How many of the first n indices pass a test.
+abbrev pub count : ℕ → (ℕ → Bool) → ℕ
+count zero test = 0
+count (suc n) test = count n test + cond (test n) 1 0
