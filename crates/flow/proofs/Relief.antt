@@ -1,5 +1,5 @@
 -- One round of the search for loads that leave no surplus: an amount is moved, or the nodes that were reached are over full.
-use Rattle.std.proofs.Common.{◌≡◌, ℕ, ◌<◌, ◌≤◌, Bool, true, false, not, ◌&&◌, eqb, List, [], length, ℤ, pos, ◌+ℤ◌, ◌-ℤ◌, neg_ℤ, ◌≤ℤ◌, ◌<ℤ◌, sym, refl, ap, ◌∙◌, arith}
+use Rattle.std.proofs.Common.{◌≡◌, ℕ, ◌<◌, ◌≤◌, Bool, true, false, not, ◌&&◌, eqb, List, [], length, Some, None, Option, ℤ, pos, ◌+ℤ◌, ◌-ℤ◌, neg_ℤ, ◌≤ℤ◌, ◌<ℤ◌, sym, refl, ap, ◌∙◌, arith}
 use Rattle.std.specs.Int.{int_min}
 use Rattle.std.proofs.lemmas.Int.{ints, clamps, by_lt_z}
 use Rattle.std.proofs.lemmas.Bool.{false≢true}
@@ -30,7 +30,7 @@ stays true true x y crosses step order = absurd (false≢true crosses)
 stays true false x y crosses step order = by_lt_z x y (λ under. absurd (false≢true (step refl under))) (λ over. omega (arith, ints))
 stays false to x y crosses step order = absurd (false≢true crosses)
 
-pub closed_bars : (net : Net) (low high load : ℕ → ℤ) (labels : List Label) → Ends net → Held net.arcs low high load
+pub closed_bars : (net : Net) (low high load : ℕ → ℤ) (labels : List (Option Label)) → Ends net → Held net.arcs low high load
     → ((a : ℕ) → a < net.arcs → ClosedIn net low high load labels a)
     → pos 0 <ℤ sum_marked net (reached_in labels) (surplus net load) → OverFullWithin net low high (reached_in labels)
 closed_bars net low high load labels ends held closed above =
@@ -73,11 +73,11 @@ module _ (graph : Graph) (spans : List Span) (loads surpluses : List ℤ) (ready
   pub surplus_limit : (v : ℕ) → v < length graph.nodes.now → Between (neg_ℤ (pos 2660000)) (pos 2660000) (numbers surpluses v)
   surplus_limit v h = rw (tells.told v h ∙ surplus_by_all net (numbers loads) v) (moderate graph loads loads_limit v (length graph.arcs.now) h (omega arith))
 
-  pub labelled_sources : (labels : List Label) → length graph.nodes.now ≤ length labels → ((v : ℕ) → v < length graph.nodes.now → label_of labels v ≡ source (numbers surpluses v))
+  pub labelled_sources : (labels : List (Option Label)) → length graph.nodes.now ≤ length labels → ((v : ℕ) → v < length graph.nodes.now → label_of labels v ≡ source (numbers surpluses v))
       → Labelled net (low_of spans) (high_of spans) (numbers loads) labels
   labelled_sources labels long is = sources_labelled net (low_of spans) (high_of spans) (numbers loads) labels long (λ v h. is v h ∙ ap source (tells.told v h))
 
-  module _ (labels : List Label) (labelled : Labelled net (low_of spans) (high_of spans) (numbers loads) labels) where
+  module _ (labels : List (Option Label)) (labelled : Labelled net (low_of spans) (high_of spans) (numbers loads) labels) where
     pub bars : (over : ℕ) → over < length graph.nodes.now → pos 0 <ℤ numbers surpluses over
         → ((a : ℕ) → a < length graph.arcs.now → ClosedIn net (low_of spans) (high_of spans) (numbers loads) labels a)
         → ((v : ℕ) → v < length graph.nodes.now → reached_in labels v ≡ true → pos 0 ≤ℤ numbers surpluses v)
@@ -88,33 +88,33 @@ module _ (graph : Graph) (spans : List Span) (loads surpluses : List ℤ) (ready
         (sum_marked_above net (reached_in labels) (surplus net (numbers loads)) over place (labelled.sourced over place (omega (arith, ints))) (omega (arith, ints))
         (λ v h reached. omega (arith, ints, none v h reached, tells.told v h)))
 
-    module _ (target : ℕ) (place : target < length graph.nodes.now) (reached : reached_in labels target ≡ true) (short : numbers surpluses target <ℤ pos 0) where
+    module _ (target : ℕ) (place : target < length graph.nodes.now) (label : Label) (at : label_of labels target ≡ Some label) (short : numbers surpluses target <ℤ pos 0) where
       -- an amount that can come to the target and that it wants
       pub record Amount (by : ℤ) : Type 0 where
         pub sign : pos 0 <ℤ by
-        pub fits : by ≤ℤ (label_of labels target).width
+        pub fits : by ≤ℤ label.width
         pub owed : by ≤ℤ neg_ℤ (numbers surpluses target)
         pub limit : by ≤ℤ pos 2660000
 
-      pub amount : (by : ℤ) → by ≡ int_min (label_of labels target).width (pos 0 -ℤ numbers surpluses target) → Amount by
+      pub amount : (by : ℤ) → by ≡ int_min label.width (pos 0 -ℤ numbers surpluses target) → Amount by
       amount by is =
           let limit = surplus_limit target place in
-          let above = labelled.wide target place reached in
+          let above = (labelled.justified target place label at).wide in
           record { sign = omega (arith, ints, clamps); fits = omega (arith, ints, clamps); owed = omega (arith, ints, clamps); limit = omega (arith, ints, clamps) }
 
       pub record Relieved (next told : List ℤ) : Type 0 where
         pub telling : Tells graph next told
         pub less : excess (length graph.nodes.now) told < excess (length graph.nodes.now) surpluses
 
-      pub relieved : (by : ℤ) → Amount by → (next told : List ℤ) (start : ℕ) → start < length graph.nodes.now → reached_in labels start ≡ true → (label_of labels start).order ≡ 0 → by ≤ℤ (label_of labels start).width
+      pub relieved : (by : ℤ) → Amount by → (next told : List ℤ) (start : ℕ) (first : Label) → start < length graph.nodes.now → label_of labels start ≡ Some first → first.step ≡ None → by ≤ℤ first.width
           → ((v : ℕ) → v < length graph.nodes.now → surplus net (numbers next) v ≡ surplus net (numbers loads) v +ℤ counted (eqb target v) by -ℤ counted (eqb start v) by)
           → length surpluses ≤ length told
           → ((v : ℕ) → numbers told v ≡ numbers surpluses v +ℤ counted (eqb target v) by -ℤ counted (eqb start v) by)
           → Relieved next told
-      relieved by enough next told start from_in from_reached first fits moved long noted = record {
+      relieved by enough next told start first from_in from_is none fits moved long noted = record {
         telling = record { long = omega (arith, tells.long); told = λ v h. omega (arith, ints, noted v, moved v h, tells.told v h) };
         less = excess_falls (length graph.nodes.now) surpluses told start target by from_in place enough.sign
-            (omega (arith, ints, labelled.sources start from_in from_reached first, tells.told start from_in)) enough.owed (λ v h. noted v);
+            (omega (arith, ints, (labelled.justified start from_in first from_is).owned none, tells.told start from_in)) enough.owed (λ v h. noted v);
       }
 
 -- where no surplus is positive, none is negative either

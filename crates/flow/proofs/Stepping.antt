@@ -1,5 +1,5 @@
 -- A single step over an arc, along it or against it, keeps the labels sound.
-use Rattle.std.proofs.Common.{◌≡◌, ℕ, ◌<◌, Bool, true, false, cond, List, [], length, set, ℤ, ◌-ℤ◌, sym, arith, w64, SFits}
+use Rattle.std.proofs.Common.{◌≡◌, ℕ, ◌<◌, Bool, true, false, cond, List, [], length, set, Option, ℤ, ◌-ℤ◌, sym, arith, w64, SFits}
 use Rattle.std.proofs.lemmas.Int.{ints}
 use Rattle.network.specs.Network.{Net}
 use Rattle.network.specs.Graphs.{net_in}
@@ -8,7 +8,7 @@ use Rattle.network.proofs.Graphs.{graph_sound}
 use Rattle.flow.specs.declared.loaded.Loaded.{Loaded}
 use Rattle.flow.specs.declared.reach.Label.{Label}
 use Rattle.flow.specs.Spans.{low_of, high_of}
-use Rattle.flow.specs.Labels.{extends, onward, end_of, start_of, room_on, LabelledOn}
+use Rattle.flow.specs.Labels.{label_of, extends, onward_from, end_of, start_of, room_on, LabelledOn}
 use Rattle.flow.proofs.Marks.{Extended, extend_by}
 use Rattle.flow.proofs.Listing.{either}
 
@@ -48,10 +48,10 @@ module _ (loaded : Loaded) (a : ℕ) (within : a < length loaded.graph.arcs.now)
       let under = loaded.under_high a within in
       by_way (SFits w64) forward (low a) (high a) (load a) (omega (arith, ints)) (omega (arith, ints))
 
-  pub stepped_over : (labels next : List Label) (from to : ℕ) (room : ℤ) (r : Bool) → LabelledOn loaded labels
+  pub stepped_over : (labels next : List (Option Label)) (from to : ℕ) (room : ℤ) (r : Bool) → LabelledOn loaded labels
       → from ≡ start_of net forward a → to ≡ end_of net forward a → room ≡ room_on forward (low a) (high a) (load a)
-      → r ≡ extends labels from to room → next ≡ cond r (set labels to (onward labels from a forward room)) labels
+      → r ≡ extends labels from to room → next ≡ cond r (set labels to (onward_from (label_of labels from) (record { arc = a; from = from; forward = forward }) room)) labels
       → Extended net low high load labels r next from to room
   stepped_over labels next from to room r labelled starts ends rooms test is =
       extend_by net low high load labels next labelled
-      forward a from to room within (omega (arith, start_in, starts)) (omega (arith, end_in, ends)) (sym starts) (sym ends) rooms r test is
+      (record { arc = a; from = from; forward = forward }) to room within (omega (arith, start_in, starts)) (omega (arith, end_in, ends)) (sym starts) (sym ends) rooms r test is

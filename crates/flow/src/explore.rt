@@ -1,5 +1,5 @@
 // A search from node to node over the arcs at hand, by which the labels spread fast.
-ghost use Rattle.std.specs.Prelude.{◌≡◌, ◌+◌, ◌<◌, ◌≤◌, length, slice_set};
+ghost use Rattle.std.specs.Prelude.{◌<◌, ◌≤◌, length};
 ghost use Rattle.flow.specs.Labels.{LabelledOn};
 ghost use Rattle.flow.specs.Near.{Listed, Nearby};
 ghost use Rattle.flow.specs.Queues.{Queued};
@@ -7,52 +7,37 @@ ghost use Rattle.flow.specs.Queues.{Queued};
 use crate::loaded::Loaded;
 use crate::near::{Lists, Near, end_of};
 use crate::reach::Label;
+use arrayvec::ArrayVec;
+use network::records::MOST_NODES;
 
-// The nodes that were reached, in the order in which they were; the first `count` places hold one each.
-#[derive(Clone, Copy)]
-pub struct Queue {
-    pub places: [usize; 64],
-    pub count: usize,
-}
-
-// Adds a node at the end of the queue.
-fn add(queue: &mut Queue, node: usize)
-    requires { queue.old.count < 64 }
-    ensures count { queue.new.count ≡ queue.old.count + 1 }
-    ensures places { queue.new.places ≡ slice_set queue.old.places queue.old.count node }
-{
-    queue.places[queue.count] = node;
-    queue.count += 1;
-}
+// The nodes that were reached, in the order in which they were.
+type Queue = ArrayVec<usize, MOST_NODES>;
 
 impl Loaded<'_> {
     // A queue of the nodes that are labelled as reached.
-    fn reached_now(&self, labels: &[Label]) -> Queue
+    fn reached_now(&self, labels: &[Option<Label>]) -> Queue
         requires { length self.now.graph.nodes.now ≤ length labels.now }
-        ensures { Queued (length self.now.graph.nodes.now) labels.now result }
+        ensures { Queued (length self.now.graph.nodes.now) labels.now result.items }
     {
-        let mut queue = Queue {
-            places: [0; 64],
-            count: 0,
-        };
+        let mut queue = Queue::new();
         for v in 0..self.graph.nodes.len() {
-            if labels[v].reached {
-                add(&mut queue, v);
+            if labels[v].is_some() {
+                queue.push(v);
             }
         }
         queue
     }
 
     // Tries a step over an arc; the node that it reaches joins the queue.
-    fn advance(&self, arc: usize, forward: bool, labels: &mut [Label], queue: &mut Queue)
+    fn advance(&self, arc: usize, forward: bool, labels: &mut [Option<Label>], queue: &mut Queue)
         requires place { arc < length self.now.graph.arcs.now }
         requires labels { LabelledOn self.now labels.old }
-        requires queued { Queued (length self.now.graph.nodes.now) labels.old queue.old }
+        requires queued { Queued (length self.now.graph.nodes.now) labels.old queue.old.items }
         ensures labelled { LabelledOn self.now labels.new }
-        ensures queued { Queued (length self.now.graph.nodes.now) labels.new queue.new }
+        ensures queued { Queued (length self.now.graph.nodes.now) labels.new queue.new.items }
     {
         if self.step_over(arc, forward, labels) {
-            add(queue, end_of(&self.graph.arcs[arc], forward));
+            queue.push(end_of(&self.graph.arcs[arc], forward));
         }
     }
 
@@ -62,15 +47,15 @@ impl Loaded<'_> {
         lists: &Lists,
         node: usize,
         forward: bool,
-        labels: &mut [Label],
+        labels: &mut [Option<Label>],
         queue: &mut Queue,
     )
         requires listed { Listed (length self.now.graph.arcs.now) lists.now }
         requires place { node < length self.now.graph.nodes.now }
         requires labels { LabelledOn self.now labels.old }
-        requires queued { Queued (length self.now.graph.nodes.now) labels.old queue.old }
+        requires queued { Queued (length self.now.graph.nodes.now) labels.old queue.old.items }
         ensures labelled { LabelledOn self.now labels.new }
-        ensures queued { Queued (length self.now.graph.nodes.now) labels.new queue.new }
+        ensures queued { Queued (length self.now.graph.nodes.now) labels.new queue.new.items }
     {
         let mut next = lists.firsts[node];
         while let Some(arc) = next {
@@ -80,13 +65,13 @@ impl Loaded<'_> {
     }
 
     // Tries the steps from a node, over the arcs that leave it and against those that enter it.
-    fn visit(&self, near: &Near, node: usize, labels: &mut [Label], queue: &mut Queue)
+    fn visit(&self, near: &Near, node: usize, labels: &mut [Option<Label>], queue: &mut Queue)
         requires near { Nearby (length self.now.graph.arcs.now) near.now }
         requires place { node < length self.now.graph.nodes.now }
         requires labels { LabelledOn self.now labels.old }
-        requires queued { Queued (length self.now.graph.nodes.now) labels.old queue.old }
+        requires queued { Queued (length self.now.graph.nodes.now) labels.old queue.old.items }
         ensures labelled { LabelledOn self.now labels.new }
-        ensures queued { Queued (length self.now.graph.nodes.now) labels.new queue.new }
+        ensures queued { Queued (length self.now.graph.nodes.now) labels.new queue.new.items }
     {
         self.follow(&near.leaving, node, true, labels, queue);
         self.follow(&near.entering, node, false, labels, queue);
@@ -94,7 +79,7 @@ impl Loaded<'_> {
 
     // Spreads the labels from node to node, in the order in which the nodes are reached, until the turn comes to a node of negative surplus.
     // It promises no more than sound labels: whether no step leads further is for a pass over all arcs to tell.
-    pub(crate) fn explore(&self, surpluses: &[i64], near: &Near, labels: &mut [Label])
+    pub(crate) fn explore(&self, surpluses: &[i64], near: &Near, labels: &mut [Option<Label>])
         requires told { length self.now.graph.nodes.now ≤ length surpluses.now }
         requires near { Nearby (length self.now.graph.arcs.now) near.now }
         requires labels { LabelledOn self.now labels.old }
@@ -102,10 +87,9 @@ impl Loaded<'_> {
     {
         let mut queue = self.reached_now(labels);
         for turn in 0..self.graph.nodes.len() {
-            if turn >= queue.count {
+            let Some(&node) = queue.as_slice().get(turn) else {
                 return;
-            }
-            let node = queue.places[turn];
+            };
             if surpluses[node] < 0 {
                 return;
             }

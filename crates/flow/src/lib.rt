@@ -8,11 +8,11 @@
 #![tactic(auto)]
 
 mod explore;
-pub mod loaded;
+mod loaded;
 pub mod meet;
-pub mod near;
+mod near;
 mod push;
-pub mod reach;
+mod reach;
 pub mod sets;
 pub mod spans;
 mod surpluses;

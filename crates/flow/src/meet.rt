@@ -13,7 +13,7 @@ ghost use Rattle.flow.specs.Surpluses.{Tells, excess};
 use crate::loaded::Loaded;
 use crate::near::{Near, near_of};
 use crate::push::push;
-use crate::reach::{BLANK, Label, first_over, label_sources};
+use crate::reach::{Label, first_over, label_sources};
 use crate::sets::NodeSet;
 use crate::spans::Span;
 use crate::surpluses::{surpluses_of, transfer};
@@ -21,13 +21,13 @@ use network::graph::Graph;
 use network::records::MOST_NODES;
 
 // The nodes that are labelled as reached.
-fn reached_of(graph: &Graph<'_>, labels: &[Label]) -> NodeSet
+fn reached_of(graph: &Graph<'_>, labels: &[Option<Label>]) -> NodeSet
     requires { length graph.now.nodes.now ≤ length labels.now }
     ensures { (v : ℕ) → v < length graph.now.nodes.now → member result v ≡ reached_in labels.now v }
 {
     let mut reached = NodeSet::empty();
     for v in 0..graph.nodes.len() {
-        if labels[v].reached {
+        if labels[v].is_some() {
             reached.insert(v);
         }
     }
@@ -54,7 +54,7 @@ fn relieve(
     ensures less { OnOk result (excess (length graph.now.nodes.now) surpluses.new < excess (length graph.now.nodes.now) surpluses.old) }
     ensures barred { IfErr result (λ set. OverFullWithin (net_in graph.now []) (low_of spans.now) (high_of spans.now) (member set)) }
 {
-    let mut labels = [BLANK; MOST_NODES];
+    let mut labels = [None; MOST_NODES];
     label_sources(graph, surpluses, &mut labels);
     let loaded = Loaded {
         graph: *graph,
@@ -65,7 +65,7 @@ fn relieve(
     let Some(target) = loaded.reach(surpluses, &mut labels) else {
         return Err(reached_of(graph, &labels));
     };
-    let by = labels[target].width.min(-surpluses[target]);
+    let by = labels[target].unwrap().width.min(-surpluses[target]);
     let start = push(graph, spans, loads, &labels, target, by);
     transfer(surpluses, start, target, by);
     Ok(())

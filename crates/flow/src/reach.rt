@@ -1,93 +1,92 @@
 // Which nodes can be reached from those of positive surplus, over steps that the loads leave open.
 
-ghost use Rattle.std.specs.Prelude.{◌≡◌, ℕ, ◌<◌, ◌≤◌, true, false, [], length, pos, ◌≤ℤ◌, ◌<ℤ◌, if◌then◌else◌, MatchOption, slice_set};
+ghost use Rattle.std.specs.Prelude.{◌≡◌, ℕ, ◌<◌, ◌≤◌, true, false, [], length, Some, pos, ◌≤ℤ◌, ◌<ℤ◌, if◌then◌else◌, MatchOption, slice_set};
 ghost use Rattle.network.specs.Graphs.{net_in};
 ghost use Rattle.network.specs.Records.{numbers};
 ghost use Rattle.flow.specs.Spans.{low_of, high_of};
-ghost use Rattle.flow.specs.Labels.{label_of, reached_in, unreached, source, extends, onward, start_of, end_of, room_on, LabelledOn, ClosedOn};
+ghost use Rattle.flow.specs.Labels.{label_of, reached_in, unreached, source, extends, onward_from, start_of, end_of, room_on, LabelledOn, ClosedOn};
 
 use crate::loaded::Loaded;
 use crate::near::{end_of, start_of};
 use crate::spans::Span;
 use network::graph::Graph;
 
-// How a node was reached: over which arc, in which direction, from which node, after how many steps, and how much can come to it.
-#[derive(Clone, Copy)]
-pub struct Label {
-    pub reached: bool,
-    pub order: usize,
+// A step over an arc, along it or against it, from the node where it starts.
+#[derive(Clone, Copy, Debug, PartialEq, Eq)]
+pub struct Step {
     pub arc: usize,
     pub from: usize,
     pub forward: bool,
-    pub width: i64,
 }
 
-pub const BLANK: Label = Label {
-    reached: false,
-    order: 0,
-    arc: 0,
-    from: 0,
-    forward: false,
-    width: 0,
-};
+// How a node was reached: after how many steps, how much can come to it, and by which step last, if it is no source.
+#[derive(Clone, Copy, Debug, PartialEq, Eq)]
+pub struct Label {
+    pub order: usize,
+    pub width: i64,
+    pub step: Option<Step>,
+}
 
-// Reaches a node from another over a step with room, unless it was reached before.
-fn extend(
-    labels: &mut [Label],
-    from: usize,
-    to: usize,
-    arc: usize,
-    forward: bool,
-    room: i64,
-) -> bool
-    requires start { from < length labels.old }
-    requires end { to < length labels.old }
-    requires orders { reached_in labels.old from ≡ true → (label_of labels.old from).order < 64 }
-    ensures answer { result ≡ extends labels.old from to room }
-    ensures labelled { labels.new ≡ (if result then slice_set labels.old to (onward labels.old from arc forward room) else labels.old) }
+// The label of a node from which a search starts, if its surplus is positive.
+fn source(surplus: i64) -> Option<Label>
+    ensures { result ≡ source surplus }
 {
-    let start = labels[from];
-    let fresh = !labels[to].reached && room > 0;
-    if !start.reached || !fresh {
-        return false;
+    if surplus > 0 {
+        Some(Label {
+            order: 0,
+            width: surplus,
+            step: None,
+        })
+    } else {
+        None
     }
-    labels[to] = Label {
-        reached: true,
-        order: start.order + 1,
-        arc,
-        from,
-        forward,
-        width: start.width.min(room),
-    };
-    true
 }
 
 // Labels the nodes of positive surplus as reached, each with its surplus, and no other node.
-pub(crate) fn label_sources(graph: &Graph<'_>, surpluses: &[i64], labels: &mut [Label])
+pub(crate) fn label_sources(graph: &Graph<'_>, surpluses: &[i64], labels: &mut [Option<Label>])
     requires told { length graph.now.nodes.now ≤ length surpluses.now }
     requires long { length graph.now.nodes.now ≤ length labels.old }
     ensures { (v : ℕ) → v < length graph.now.nodes.now → label_of labels.new v ≡ source (numbers surpluses.now v) }
 {
     for v in 0..graph.nodes.len() {
-        labels[v] = Label {
-            reached: surpluses[v] > 0,
-            order: 0,
-            arc: 0,
-            from: 0,
-            forward: false,
-            width: surpluses[v],
-        };
+        labels[v] = source(surpluses[v]);
     }
 }
 
+// Reaches a node by a step with room from a node that was reached, unless it was reached before.
+fn extend(labels: &mut [Option<Label>], step: Step, to: usize, room: i64) -> bool
+    requires start { step.from < length labels.old }
+    requires end { to < length labels.old }
+    requires orders { (label : Label) → label_of labels.old step.from ≡ Some label → label.order < 64 }
+    ensures answer { result ≡ extends labels.old step.from to room }
+    ensures labelled { labels.new ≡ (if result then slice_set labels.old to (onward_from (label_of labels.old step.from) step room) else labels.old) }
+{
+    let Some(start) = labels[step.from] else {
+        return false;
+    };
+    let fresh = labels[to].is_none() && room > 0;
+    if fresh {
+        labels[to] = Some(Label {
+            order: start.order + 1,
+            width: start.width.min(room),
+            step: Some(step),
+        });
+    }
+    fresh
+}
+
 // A node that was reached and has a negative surplus.
-pub(crate) fn first_short(graph: &Graph<'_>, surpluses: &[i64], labels: &[Label]) -> Option<usize>
+pub(crate) fn first_short(
+    graph: &Graph<'_>,
+    surpluses: &[i64],
+    labels: &[Option<Label>],
+) -> Option<usize>
     requires told { length graph.now.nodes.now ≤ length surpluses.now }
     requires long { length graph.now.nodes.now ≤ length labels.now }
     ensures { MatchOption result ((v : ℕ) → v < length graph.now.nodes.now → reached_in labels.now v ≡ true → pos 0 ≤ℤ numbers surpluses.now v) (λ v. (v < length graph.now.nodes.now) × (reached_in labels.now v ≡ true) × (numbers surpluses.now v <ℤ pos 0)) }
 {
     for v in 0..graph.nodes.len() {
-        if labels[v].reached && surpluses[v] < 0 {
+        if labels[v].is_some() && surpluses[v] < 0 {
             return Some(v);
         }
     }
@@ -124,7 +123,7 @@ fn room_on(forward: bool, span: Span, load: i64) -> i64
 
 impl Loaded<'_> {
     // Tries a step over an arc, along it or against it; answers whether it reaches a node more.
-    pub(crate) fn step_over(&self, arc: usize, forward: bool, labels: &mut [Label]) -> bool
+    pub(crate) fn step_over(&self, arc: usize, forward: bool, labels: &mut [Option<Label>]) -> bool
         requires place { arc < length self.now.graph.arcs.now }
         requires labels { LabelledOn self.now labels.old }
         ensures labelled { LabelledOn self.now labels.new }
@@ -135,11 +134,11 @@ impl Loaded<'_> {
         let from = start_of(&self.graph.arcs[arc], forward);
         let to = end_of(&self.graph.arcs[arc], forward);
         let room = room_on(forward, self.spans[arc], self.loads[arc]);
-        extend(labels, from, to, arc, forward, room)
+        extend(labels, Step { arc, from, forward }, to, room)
     }
 
     // One pass over the arcs that reaches further nodes over steps with room; answers whether there were any.
-    fn spread(&self, labels: &mut [Label]) -> bool
+    fn spread(&self, labels: &mut [Option<Label>]) -> bool
         requires { LabelledOn self.now labels.old }
         ensures labelled { LabelledOn self.now labels.new }
         ensures further { result ≡ true → unreached (length self.now.graph.nodes.now) labels.new < unreached (length self.now.graph.nodes.now) labels.old }
@@ -156,7 +155,7 @@ impl Loaded<'_> {
     }
 
     // Spreads until a node of negative surplus is reached, or no step with room leads further.
-    pub(crate) fn reach(&self, surpluses: &[i64], labels: &mut [Label]) -> Option<usize>
+    pub(crate) fn reach(&self, surpluses: &[i64], labels: &mut [Option<Label>]) -> Option<usize>
         requires told { length self.now.graph.nodes.now ≤ length surpluses.now }
         requires labels { LabelledOn self.now labels.old }
         ensures labelled { LabelledOn self.now labels.new }

@@ -1,5 +1,5 @@
 -- A way is found, along which an amount is pushed and noted; or no way is found.
-use Rattle.std.proofs.Common.{[], pos, ◌-ℤ◌, arith, w64, SFits, rules}
+use Rattle.std.proofs.Common.{◌≡◌, [], Some, IsSomeAnd, subst, sym, to_z, of_z, ◌≤ℤ◌, pos, ◌-ℤ◌, arith, w64, SFits, rules}
 use Rattle.std.proofs.lemmas.Int.{ints, to_z-of_z}
 use Rattle.network.specs.Graphs.{net_in}
 use Rattle.network.proofs.Nets.{sound_ends}
@@ -7,6 +7,7 @@ use Rattle.network.proofs.Graphs.{graph_sound}
 use Rattle.flow.specs.Sets.{member}
 use Rattle.network.specs.Records.{numbers}
 use Rattle.flow.specs.Labels.{label_of, reached_in}
+use Rattle.flow.proofs.Marks.{taken}
 use Rattle.flow.proofs.Relief.{over_full_alike, labelled_sources, bars, amount, surplus_limit, relieved}
 use Rattle.flow.proofs.meet.relieve.Goals as goal
 
@@ -41,22 +42,32 @@ pub push-start-requires : goal.push-start-requires
 push-start-requires c =
     let found = c.in-Some.ensures.found in
     let limit = surplus_limit c.args.graph.now c.args.spans.now c.args.loads.now c.args.surpluses.now c.requires.ready c.requires.tells c.in-Some.target found.0 in
-    let width : SFits w64 (label_of c.reach.new.labels c.in-Some.target).width = search rules in
+    let label = c.unwrap.result in
+    let at : label_of c.reach.new.labels c.in-Some.target ≡ Some label = search rules in
+    let width : SFits w64 label.width = search rules in
     let here : SFits w64 (numbers c.args.surpluses.now c.in-Some.target) = omega (arith, ints) in
     let turned : SFits w64 (pos 0 -ℤ numbers c.args.surpluses.now c.in-Some.target) = omega (arith, ints) in
-    let enough = amount c.args.graph.now c.args.spans.now c.args.loads.now c.args.surpluses.now c.requires.ready c.requires.tells c.reach.new.labels c.reach.ensures.labelled c.in-Some.target found.0 found.1 found.2
-    c.min-by.result (simp to_z-of_z at c.min-by.ensures.value) in
-    record { ready = c.requires.ready; labels = c.reach.ensures.labelled; place = found.0; reached = found.1; sign = omega (arith, ints, enough.sign); amount = omega (arith, ints, enough.fits) }
+    let enough = amount c.args.graph.now c.args.spans.now c.args.loads.now c.args.surpluses.now c.requires.ready c.requires.tells c.reach.new.labels c.reach.ensures.labelled c.in-Some.target found.0 label at found.2 c.min-by.result (simp to_z-of_z at c.min-by.ensures.value) in
+    let fits : SFits w64 c.min-by.result = omega (arith, ints, enough.sign, enough.limit) in
+    record {
+      ready = c.requires.ready;
+      labels = c.reach.ensures.labelled;
+      place = found.0;
+      sign = omega (arith, ints, enough.sign);
+      amount = subst (λ o. IsSomeAnd o (λ l. to_z w64 (of_z w64 c.min-by.result) ≤ℤ l.width)) (sym at) (omega (arith, ints, enough.fits));
+    }
 
 pub transfer-requires : goal.transfer-requires
 transfer-requires c =
     let found = c.in-Some.ensures.found in
     let limit = surplus_limit c.args.graph.now c.args.spans.now c.args.loads.now c.args.surpluses.now c.requires.ready c.requires.tells c.in-Some.target found.0 in
-    let width : SFits w64 (label_of c.reach.new.labels c.in-Some.target).width = search rules in
+    let label = c.unwrap.result in
+    let at : label_of c.reach.new.labels c.in-Some.target ≡ Some label = search rules in
+    let width : SFits w64 label.width = search rules in
     let here : SFits w64 (numbers c.args.surpluses.now c.in-Some.target) = omega (arith, ints) in
     let turned : SFits w64 (pos 0 -ℤ numbers c.args.surpluses.now c.in-Some.target) = omega (arith, ints) in
-    let enough = amount c.args.graph.now c.args.spans.now c.args.loads.now c.args.surpluses.now c.requires.ready c.requires.tells c.reach.new.labels c.reach.ensures.labelled c.in-Some.target found.0 found.1 found.2
-    c.min-by.result (simp to_z-of_z at c.min-by.ensures.value) in
+    let enough = amount c.args.graph.now c.args.spans.now c.args.loads.now c.args.surpluses.now c.requires.ready c.requires.tells c.reach.new.labels c.reach.ensures.labelled c.in-Some.target found.0 label at found.2 c.min-by.result (simp to_z-of_z at c.min-by.ensures.value) in
+    let fits : SFits w64 c.min-by.result = omega (arith, ints, enough.sign, enough.limit) in
     let start = surplus_limit c.args.graph.now c.args.spans.now c.args.loads.now c.args.surpluses.now c.requires.ready c.requires.tells c.push-start.result c.push-start.ensures.place in
     record {
       from = omega (arith, c.push-start.ensures.place, c.requires.tells.long);
@@ -69,13 +80,15 @@ pub returns : goal.returns
 returns c =
     let found = c.in-Some.ensures.found in
     let limit = surplus_limit c.args.graph.now c.args.spans.now c.args.loads.now c.args.surpluses.now c.requires.ready c.requires.tells c.in-Some.target found.0 in
-    let width : SFits w64 (label_of c.reach.new.labels c.in-Some.target).width = search rules in
+    let label = c.unwrap.result in
+    let at : label_of c.reach.new.labels c.in-Some.target ≡ Some label = search rules in
+    let width : SFits w64 label.width = search rules in
     let here : SFits w64 (numbers c.args.surpluses.now c.in-Some.target) = omega (arith, ints) in
     let turned : SFits w64 (pos 0 -ℤ numbers c.args.surpluses.now c.in-Some.target) = omega (arith, ints) in
-    let enough = amount c.args.graph.now c.args.spans.now c.args.loads.now c.args.surpluses.now c.requires.ready c.requires.tells c.reach.new.labels c.reach.ensures.labelled c.in-Some.target found.0 found.1 found.2
-    c.min-by.result (simp to_z-of_z at c.min-by.ensures.value) in
+    let enough = amount c.args.graph.now c.args.spans.now c.args.loads.now c.args.surpluses.now c.requires.ready c.requires.tells c.reach.new.labels c.reach.ensures.labelled c.in-Some.target found.0 label at found.2 c.min-by.result (simp to_z-of_z at c.min-by.ensures.value) in
     let fits : SFits w64 c.min-by.result = omega (arith, ints, enough.sign, enough.limit) in
-    let done = relieved c.args.graph.now c.args.spans.now c.args.loads.now c.args.surpluses.now c.requires.ready c.requires.tells c.reach.new.labels c.reach.ensures.labelled c.in-Some.target found.0 found.1 found.2
-    c.min-by.result enough c.push-start.new.loads c.transfer.new.numbers c.push-start.result c.push-start.ensures.place c.push-start.ensures.reached c.push-start.ensures.first
-    (omega (arith, ints, c.push-start.ensures.amount)) (simp to_z-of_z at c.push-start.ensures.moved) (omega arith) (simp to_z-of_z at c.transfer.ensures) in
+    let first = taken _ (label_of c.reach.new.labels c.push-start.result) c.push-start.ensures.first in
+    let done = relieved c.args.graph.now c.args.spans.now c.args.loads.now c.args.surpluses.now c.requires.ready c.requires.tells c.reach.new.labels c.reach.ensures.labelled c.in-Some.target found.0 label at found.2
+    c.min-by.result enough c.push-start.new.loads c.transfer.new.numbers c.push-start.result first.0 c.push-start.ensures.place first.1 first.2.0
+    (omega (arith, ints, first.2.1)) (simp to_z-of_z at c.push-start.ensures.moved) (omega arith) (simp to_z-of_z at c.transfer.ensures) in
     record { ready = c.push-start.ensures.ready; tells = done.telling; less = done.less; barred = tt }

@@ -1,10 +1,10 @@
 -- The amount is still to be brought from the node at hand to the target; each step back comes to a node that was reached earlier.
 use Rattle.flow.specs.Labels.{label_of}
-use Rattle.flow.proofs.Pushes.{Pushing}
+use Rattle.flow.proofs.Pushes.{Pushing, order_of}
 use Rattle.flow.proofs.push.push.Given as goal
 
-abbrev pub invariant-loop-node : goal.invariant-loop-node
-invariant-loop-node l = Pushing l.graph l.spans l.initial.loads l.labels l.target l.by l.loads l.node
+abbrev pub invariant-loop-step : goal.invariant-loop-step
+invariant-loop-step l = Pushing l.graph l.spans l.initial.loads l.labels l.target l.by l.loads l.node
 
-abbrev pub decreases-loop-node : goal.decreases-loop-node
-decreases-loop-node l = (label_of l.labels l.node).order
+abbrev pub decreases-loop-step : goal.decreases-loop-step
+decreases-loop-step l = order_of (label_of l.labels l.node)

@@ -7,4 +7,4 @@ use Rattle.flow.proofs.loaded.Loaded.explore.Given as goal
 abbrev pub invariant-loop-turn : goal.invariant-loop-turn
 invariant-loop-turn l =
     LabelledOn l.self l.labels
-    × Queued (length l.self.graph.nodes.now) l.labels l.queue
+    × Queued (length l.self.graph.nodes.now) l.labels l.queue.items

@@ -9,7 +9,7 @@ abbrev pub invariant-loop-next : goal.invariant-loop-next
 invariant-loop-next l =
     (past l.next ≤ length l.self.graph.arcs.now)
     × LabelledOn l.self l.labels
-    × Queued (length l.self.graph.nodes.now) l.labels l.queue
+    × Queued (length l.self.graph.nodes.now) l.labels l.queue.items
 
 abbrev pub decreases-loop-next : goal.decreases-loop-next
 decreases-loop-next l = past l.next

@@ -1,11 +1,17 @@
 -- The step is one of those that keep the labels sound.
-use Rattle.std.proofs.Common.{◌≡◌, w64, SFits}
+use Rattle.std.proofs.Common.{◌≡◌, ◌<◌, length, arith, w64, SFits}
 use Rattle.std.proofs.lemmas.Int.{to_z-of_z}
 use Rattle.network.specs.Records.{numbers}
 use Rattle.flow.specs.Spans.{low_of, high_of}
 use Rattle.flow.specs.Labels.{room_on}
-use Rattle.flow.proofs.Stepping.{limits_fit, room_fits, stepped_over}
+use Rattle.flow.proofs.Stepping.{start_in, limits_fit, room_fits, stepped_over}
 use Rattle.flow.proofs.loaded.Loaded.step_over.Goals as goal
+
+pub extend-requires-clause-orders : goal.extend-requires-clause-orders
+extend-requires-clause-orders c =
+    λ label is.
+    let from : c.start_of-from.result < length c.args.self.now.graph.nodes.now = omega (arith, c.start_of-from.ensures, start_in c.args.self.now c.args.arc c.requires.place c.args.forward) in
+    omega (arith, (c.requires.labels.justified c.start_of-from.result from label is).ordered, c.args.self.now.graph.few_nodes)
 
 pub returns : goal.returns
 returns c =
