@@ -85,12 +85,11 @@ pub(crate) fn first_short(
     requires long { length graph.now.nodes.now ≤ length labels.now }
     ensures { MatchOption result ((v : ℕ) → v < length graph.now.nodes.now → reached_in labels.now v ≡ true → pos 0 ≤ℤ numbers surpluses.now v) (λ v. (v < length graph.now.nodes.now) × (reached_in labels.now v ≡ true) × (numbers surpluses.now v <ℤ pos 0)) }
 {
-    for v in 0..graph.nodes.len() {
-        if labels[v].is_some() && surpluses[v] < 0 {
-            return Some(v);
-        }
-    }
-    None
+    let surpluses = &surpluses[..graph.nodes.len()];
+    surpluses
+        .iter()
+        .zip(labels)
+        .position(|(surplus, label)| label.is_some() && *surplus < 0)
 }
 
 // A node of positive surplus.
@@ -98,12 +97,9 @@ pub(crate) fn first_over(graph: &Graph<'_>, surpluses: &[i64]) -> Option<usize>
     requires told { length graph.now.nodes.now ≤ length surpluses.now }
     ensures { MatchOption result ((v : ℕ) → v < length graph.now.nodes.now → numbers surpluses.now v ≤ℤ pos 0) (λ v. (v < length graph.now.nodes.now) × (pos 0 <ℤ numbers surpluses.now v)) }
 {
-    for v in 0..graph.nodes.len() {
-        if surpluses[v] > 0 {
-            return Some(v);
-        }
-    }
-    None
+    surpluses[..graph.nodes.len()]
+        .iter()
+        .position(|surplus| *surplus > 0)
 }
 
 // By how much a load can change in the direction of a step.
