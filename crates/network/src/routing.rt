@@ -15,12 +15,11 @@ pub fn first_out_of_range<C: Cost>(costs: &[C], loads: &[i64]) -> Option<usize>
     requires { length loads.now ≡ length costs.now }
     ensures { result ≡ out_of_range (map C.Cost.meaning costs.now) loads.now }
 {
-    for (a, cost) in costs.iter().enumerate() {
-        if !in_range(cost, loads[a]) {
-            return Some(a + 1);
-        }
-    }
-    None
+    let arc = costs
+        .iter()
+        .zip(loads)
+        .position(|(cost, load)| !in_range(cost, *load))?;
+    Some(arc + 1)
 }
 
 impl Arc {

@@ -1,27 +1,19 @@
 -- The loads before are in range, so the first that is not is the answer.
-use Rattle.std.proofs.Common.{◌≡◌, false, not, map, length, sym, ap, arith, rules, below_more}
+use Rattle.std.proofs.Common.{◌≡◌, ◌+◌, true, false, option_map, sym, ap, ◌∙◌, rules}
+use Rattle.std.proofs.lemmas.Iterator.{YieldsList-from_slice, YieldsList-from_zip, IsFirst-from_position}
+use borrow.Author.Tests.{tests}
 use Rattle.cost.specs.Meaning.{in_range}
-use Rattle.cost.proofs.FirstPlace.{first_place_none, first_place_found}
-use Rattle.network.specs.Records.{cost_of, numbers}
-use Rattle.network.proofs.Costs.{cost_read}
+use Rattle.network.proofs.Costs.{first_pair}
 use Rattle.network.proofs.routing.first_out_of_range.Goals as goal
 
-pub returns-then-not-in_range : goal.returns-then-not-in_range
-returns-then-not-in_range g c =
-    let costs = map g.C.Cost.meaning c.args.costs.now in
-    let loads = c.args.loads.now in
-    let a = c.loop-a.a in
-    let read = cost_read g.C.Cost.meaning c.args.costs.now a c.index-costs-a.result (omega arith) c.index-costs-a.is in
-    let here : in_range (cost_of costs a) (numbers loads a) ≡ false = search rules in
-    sym (first_place_found (λ k. not (in_range (cost_of costs k) (numbers loads k))) (length loads) a (omega arith) (λ k h. ap not (c.loop-a.invariant k h)) (ap not here))
-
-pub loop-a-preserved : goal.loop-a-preserved
-loop-a-preserved g c =
-    let read = cost_read g.C.Cost.meaning c.args.costs.now c.loop-a.a c.index-costs-a.result (omega arith) c.index-costs-a.is in
-    below_more _ _ c.loop-a.invariant (search rules)
+pub returns-in_err-arc : goal.returns-in_err-arc
+returns-in_err-arc g c =
+    let first = IsFirst-from_position c.position.new.self _ c.position.result (λ p. in_range (g.C.Cost.meaning p.0) p.1 ≡ false) (λ p. in_range (g.C.Cost.meaning p.0) p.1 ≡ true) c.position.ensures.ran
+    (YieldsList-from_zip (YieldsList-from_slice c.args.costs.now cc) (YieldsList-from_slice c.args.loads.now cc)) (λ x q k. search (rules, tests)) (λ x q k. search (rules, tests)) in
+    c.from_residual.ensures ∙ ap (option_map (λ i. i + 1)) (sym c.in_err-arc.was) ∙ first_pair g.C.Cost.meaning c.args.costs.now c.args.loads.now c.requires c.position.result first
 
 pub returns : goal.returns
 returns g c =
-    let costs = map g.C.Cost.meaning c.args.costs.now in
-    let loads = c.args.loads.now in
-    sym (first_place_none (λ k. not (in_range (cost_of costs k) (numbers loads k))) (length loads) (λ k h. ap not (c.loop-a.invariant k (omega arith))))
+    let first = IsFirst-from_position c.position.new.self _ c.position.result (λ p. in_range (g.C.Cost.meaning p.0) p.1 ≡ false) (λ p. in_range (g.C.Cost.meaning p.0) p.1 ≡ true) c.position.ensures.ran
+    (YieldsList-from_zip (YieldsList-from_slice c.args.costs.now cc) (YieldsList-from_slice c.args.loads.now cc)) (λ x q k. search (rules, tests)) (λ x q k. search (rules, tests)) in
+    ap (option_map (λ i. i + 1)) (sym c.in_ok-arc.was) ∙ first_pair g.C.Cost.meaning c.args.costs.now c.args.loads.now c.requires c.position.result first
