@@ -5,7 +5,7 @@ ghost use Rattle.flow.specs.Near.{Listed, Nearby};
 ghost use Rattle.flow.specs.Queues.{Queued};
 
 use crate::loaded::Loaded;
-use crate::near::{Lists, Near, end_of};
+use crate::near::{Lists, Near, Walk, end_of};
 use crate::reach::Label;
 use arrayvec::ArrayVec;
 use network::records::MOST_NODES;
@@ -57,10 +57,12 @@ impl Loaded<'_> {
         ensures labelled { LabelledOn self.now labels.new }
         ensures queued { Queued (length self.now.graph.nodes.now) labels.new queue.new.items }
     {
-        let mut next = lists.firsts[node];
-        while let Some(arc) = next {
+        let walk = Walk {
+            nexts: &lists.nexts,
+            ahead: lists.firsts[node],
+        };
+        for arc in walk {
             self.advance(arc, forward, labels, queue);
-            next = lists.nexts[arc];
         }
     }
 

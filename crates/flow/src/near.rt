@@ -1,6 +1,7 @@
 // The arcs at each node, in lists that lie in fixed arrays.
-ghost use Rattle.std.specs.Prelude.{◌≡◌, ◌<◌, ◌≤◌, length, if◌then◌else◌, Some, slice_set};
-ghost use Rattle.flow.specs.Near.{Listed, Nearby, listed_at};
+ghost use Rattle.std.specs.Prelude.{◌≡◌, ℕ, ◌<◌, ◌≤◌, length, if◌then◌else◌, Some, IfSome, slice_set};
+ghost use Rattle.std.specs.Iterator.{at_most};
+ghost use Rattle.flow.specs.Near.{Listed, Nearby, listed_at, past};
 
 use network::graph::Graph;
 use network::records::{Arc, MOST_ARCS, MOST_NODES};
@@ -10,6 +11,30 @@ use network::records::{Arc, MOST_ARCS, MOST_NODES};
 pub struct Lists {
     pub firsts: [Option<usize>; MOST_NODES],
     pub nexts: [Option<usize>; MOST_ARCS],
+}
+
+// A walk along one list: the arc that comes next, and after each arc the next one, which stands before it.
+#[derive(Clone, Copy)]
+pub struct Walk<'a> {
+    pub nexts: &'a [Option<usize>],
+    pub ahead: Option<usize>,
+    ghost within: { past ahead ≤ length nexts.now },
+    ghost earlier: { (a : ℕ) → past (listed_at nexts.now a) ≤ a },
+}
+
+impl Iterator for Walk<'_> {
+    type Item = usize;
+
+    ghost next_gives = { λ s r t. IfSome r (λ a. a < past s.ahead) × (past t.ahead ≤ past s.ahead) };
+
+    ghost remaining = { λ s. at_most (past s.ahead) };
+
+    // The arc that comes next.
+    fn next(&mut self) -> Option<usize> {
+        let arc = self.ahead?;
+        self.ahead = self.nexts[arc];
+        Some(arc)
+    }
 }
 
 // The arcs that leave each node, and those that enter it.
