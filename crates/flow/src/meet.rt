@@ -13,7 +13,7 @@ ghost use Rattle.flow.specs.Surpluses.{Tells, excess};
 use crate::loaded::Loaded;
 use crate::near::{Near, near_of};
 use crate::push::push;
-use crate::reach::{Label, first_over, label_sources};
+use crate::reach::{Label, first_over, source};
 use crate::sets::NodeSet;
 use crate::spans::Span;
 use crate::surpluses::{surpluses_of, transfer};
@@ -21,13 +21,12 @@ use network::graph::Graph;
 use network::records::MOST_NODES;
 
 // The nodes that are labelled as reached.
-fn reached_of(graph: &Graph<'_>, labels: &[Option<Label>]) -> NodeSet
-    requires { length graph.now.nodes.now ≤ length labels.now }
-    ensures { (v : ℕ) → v < length graph.now.nodes.now → member result v ≡ reached_in labels.now v }
+fn reached_of(labels: &[Option<Label>; MOST_NODES]) -> NodeSet
+    ensures { (v : ℕ) → member result v ≡ reached_in labels.now v }
 {
     let mut reached = NodeSet::empty();
-    for v in 0..graph.nodes.len() {
-        if labels[v].is_some() {
+    for (v, label) in labels.iter().enumerate() {
+        if label.is_some() {
             reached.insert(v);
         }
     }
@@ -40,7 +39,7 @@ fn relieve(
     graph: &Graph<'_>,
     spans: &[Span],
     loads: &mut [i64],
-    surpluses: &mut [i64],
+    surpluses: &mut [i64; MOST_NODES],
     near: &Near,
     over: usize,
 ) -> Result<(), NodeSet>
@@ -54,8 +53,7 @@ fn relieve(
     ensures less { OnOk result (excess (length graph.now.nodes.now) surpluses.new < excess (length graph.now.nodes.now) surpluses.old) }
     ensures barred { IfErr result (λ set. OverFullWithin (net_in graph.now []) (low_of spans.now) (high_of spans.now) (member set)) }
 {
-    let mut labels = [None; MOST_NODES];
-    label_sources(graph, surpluses, &mut labels);
+    let mut labels = surpluses.map(source);
     let loaded = Loaded {
         graph: *graph,
         spans,
@@ -63,7 +61,7 @@ fn relieve(
     };
     loaded.explore(surpluses, near, &mut labels);
     let Some(target) = loaded.reach(surpluses, &mut labels) else {
-        return Err(reached_of(graph, &labels));
+        return Err(reached_of(&labels));
     };
     let by = labels[target].unwrap().width.min(-surpluses[target]);
     let start = push(graph, spans, loads, &labels, target, by);

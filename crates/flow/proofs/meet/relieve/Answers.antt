@@ -1,5 +1,6 @@
 -- A way is found, along which an amount is pushed and noted; or no way is found.
-use Rattle.std.proofs.Common.{◌≡◌, [], Some, IsSomeAnd, subst, sym, to_z, of_z, ◌≤ℤ◌, pos, ◌-ℤ◌, arith, w64, SFits, rules}
+use Rattle.std.proofs.Common.{◌≡◌, [], Some, None, IsSomeAnd, subst, sym, to_z, of_z, ◌≤ℤ◌, pos, ◌-ℤ◌, arith, w64, SFits, rules}
+use borrow.Author.Tests.{tests}
 use Rattle.std.proofs.lemmas.Int.{ints, to_z-of_z}
 use Rattle.network.specs.Graphs.{net_in}
 use Rattle.network.proofs.Nets.{sound_ends}
@@ -11,12 +12,25 @@ use Rattle.flow.proofs.Marks.{taken}
 use Rattle.flow.proofs.Relief.{over_full_alike, labelled_sources, bars, amount, surplus_limit, relieved}
 use Rattle.flow.proofs.meet.relieve.Goals as goal
 
+pub invariant_of-loaded : goal.invariant_of-loaded
+invariant_of-loaded c =
+    let ready = c.requires.ready in
+    record {
+      spans_long = ready.spans_long;
+      loads_long = ready.loads_long;
+      low_limit = ready.low_limit;
+      high_limit = ready.high_limit;
+      above_low = λ a h. (ready.held a h).0;
+      under_high = λ a h. (ready.held a h).1;
+    }
+
 pub explore-requires : goal.explore-requires
 explore-requires c = record {
   told = c.requires.tells.long;
   near = c.requires.near;
   labels = labelled_sources c.args.graph.now c.args.spans.now c.args.loads.now c.args.surpluses.now c.requires.ready c.requires.tells
-      c.label_sources.new.labels (omega arith) c.label_sources.ensures;
+      c.map-labels.result (omega (arith, c.map-labels.ensures.items.long, c.args.graph.now.few_nodes))
+      (λ v h. let made = c.map-labels.ensures.items.at v (pos 0) None (omega (arith, c.args.graph.now.few_nodes)) in search (rules, tests));
 }
 
 pub reach-requires : goal.reach-requires
@@ -30,7 +44,7 @@ returns-in_default c = record {
   barred =
       let none = c.in_default.ensures.found in
       over_full_alike (net_in c.args.graph.now []) _ _ (reached_in c.reach.new.labels) (member c.reached_of.result)
-      (sound_ends c.args.graph.now.nodes.now c.args.graph.now.arcs.now [] (graph_sound c.args.graph.now)) c.reached_of.ensures (bars c.args.graph.now c.args.spans.now c.args.loads.now c.args.surpluses.now c.requires.ready c.requires.tells c.reach.new.labels c.reach.ensures.labelled c.args.over c.requires.place c.requires.above none.0 none.1);
+      (sound_ends c.args.graph.now.nodes.now c.args.graph.now.arcs.now [] (graph_sound c.args.graph.now)) (λ v h. c.reached_of.ensures v) (bars c.args.graph.now c.args.spans.now c.args.loads.now c.args.surpluses.now c.requires.ready c.requires.tells c.reach.new.labels c.reach.ensures.labelled c.args.over c.requires.place c.requires.above none.0 none.1);
 }
 
 pub overflow_sub-surpluses : goal.overflow_sub-surpluses
