@@ -88,6 +88,7 @@ impl Loaded<'_> {
         ensures { LabelledOn self.now labels.new }
     {
         let mut queue = self.reached_now(labels);
+        // The queue grows while it is read, so its places are counted.
         for turn in 0..self.graph.nodes.len() {
             let Some(&node) = queue.as_slice().get(turn) else {
                 return;

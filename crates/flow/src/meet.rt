@@ -78,8 +78,7 @@ pub fn meet(graph: &Graph<'_>, spans: &[Span], loads: &mut [i64]) -> Result<(), 
     ensures barred { IfErr result (λ set. OverFullWithin (net_in graph.now []) (low_of spans.now) (high_of spans.now) (member set)) }
 {
     let near = near_of(graph);
-    let mut surpluses = [0; MOST_NODES];
-    surpluses_of(graph, loads, &mut surpluses);
+    let mut surpluses = surpluses_of(graph, loads);
     while let Some(over) = first_over(graph, &surpluses) {
         relieve(graph, spans, loads, &mut surpluses, &near, over)?;
     }

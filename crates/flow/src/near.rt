@@ -7,6 +7,7 @@ use network::graph::Graph;
 use network::records::{Arc, MOST_ARCS, MOST_NODES};
 
 // One list of arcs for each node: the first arc of each list, and after each arc the next one of its list.
+// Settling cannot fail and so takes no heap: the lists lie in fixed arrays, and an arc stands for its place.
 #[derive(Clone, Copy)]
 pub struct Lists {
     pub firsts: [Option<usize>; MOST_NODES],

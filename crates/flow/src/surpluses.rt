@@ -6,16 +6,18 @@ ghost use Rattle.network.specs.Records.{net_of, numbers as at};
 ghost use Rattle.flow.specs.Surpluses.{Tells};
 
 use network::graph::Graph;
-use network::records::Node;
+use network::records::{MOST_NODES, Node};
 
-// Writes down the supply of each node.
-fn supplies_of(nodes: &[Node], supplies: &mut [i64])
-    requires { length nodes.now ≤ length supplies.old }
-    ensures { (v : ℕ) → v < length nodes.now → at supplies.new v ≡ (net_of nodes.now [] []).supply v }
+// The supply of each node.
+fn supplies_of(nodes: &[Node]) -> [i64; MOST_NODES]
+    requires { length nodes.now ≤ MOST_NODES }
+    ensures { (v : ℕ) → v < length nodes.now → at result v ≡ (net_of nodes.now [] []).supply v }
 {
+    let mut supplies = [0; MOST_NODES];
     for (v, node) in nodes.iter().enumerate() {
         supplies[v] = node.supply;
     }
+    supplies
 }
 
 // Adds an amount to one number of a list.
@@ -40,15 +42,15 @@ pub(crate) fn transfer(numbers: &mut [i64], from: usize, to: usize, by: i64)
     add(numbers, from, -by);
 }
 
-// Writes down the surplus of each node: its supply, with each load added at the head of its arc and taken off at the tail.
-pub(crate) fn surpluses_of(graph: &Graph<'_>, loads: &[i64], surpluses: &mut [i64])
+// The surplus of each node: its supply, with each load added at the head of its arc and taken off at the tail.
+pub(crate) fn surpluses_of(graph: &Graph<'_>, loads: &[i64]) -> [i64; MOST_NODES]
     requires loaded { length graph.now.arcs.now ≤ length loads.now }
     requires limits { (a : ℕ) → a < length graph.now.arcs.now → Between (pos 0) (pos 10000) (at loads.now a) }
-    requires long { length graph.now.nodes.now ≤ length surpluses.old }
-    ensures { Tells graph.now loads.now surpluses.new }
+    ensures { Tells graph.now loads.now result }
 {
-    supplies_of(graph.nodes, surpluses);
+    let mut surpluses = supplies_of(graph.nodes);
     for (arc, load) in graph.arcs.iter().zip(loads) {
-        transfer(surpluses, arc.tail, arc.head, *load);
+        transfer(&mut surpluses, arc.tail, arc.head, *load);
     }
+    surpluses
 }

@@ -18,7 +18,7 @@ transfer-requires c =
     let load = c.requires.limits a turn.0 in
     let tail = (graph_sound c.args.graph.now).tails a turn.0 in
     let head = (graph_sound c.args.graph.now).heads a turn.0 in
-    let here = limits_here c.args.graph.now c.args.loads.now c.requires.limits c.loop-arc.surpluses a turn.0 c.loop-arc.invariant.2 in
+    let here = limits_here c.args.graph.now c.args.loads.now c.requires.limits c.loop-arc.surpluses a turn.0 c.loop-arc.invariant.3 in
     rw (arc, given) (record { from = omega arith; to = omega arith; limits = omega (arith, ints); amount = omega (arith, ints) })
 
 pub loop-arc-preserved : goal.loop-arc-preserved
@@ -31,7 +31,8 @@ loop-arc-preserved c =
     let fits : SFits w64 (numbers c.args.loads.now a) = omega (arith, ints) in (
       (tt, tt),
       tt,
-      rw (length-append c.loop-arc.yielded ((c.in-Some.arc, c.in-Some.load) ∷ [])) (gathered c.args.graph.now c.args.loads.now c.requires.limits c.loop-arc.surpluses a turn.0 c.loop-arc.invariant.2 c.transfer.new.numbers
+      omega (arith, c.loop-arc.invariant.2),
+      rw (length-append c.loop-arc.yielded ((c.in-Some.arc, c.in-Some.load) ∷ [])) (gathered c.args.graph.now c.args.loads.now c.requires.limits c.loop-arc.surpluses a turn.0 c.loop-arc.invariant.3 c.transfer.new.numbers
           (simp to_z-of_z at (rw (arc, given) at c.transfer.ensures))),
     )
 
@@ -40,9 +41,9 @@ returns c =
     let end = zip_end c.args.graph.now.arcs.now c.args.loads.now c.loop-arc.yielded c.into_iter-arc-iterator.result c.loop-arc.arc-iterator c.next.new.self _ (cc) (cc) c.loop-arc.yielded_by c.in-None.is c.next.ensures.steps in
     let all : length c.loop-arc.yielded ≡ length c.args.graph.now.arcs.now = omega (arith, end, c.requires.loaded) in
     record {
-      long = omega arith;
+      long = omega (arith, c.loop-arc.invariant.2, c.args.graph.now.few_nodes);
       told = λ v h.
           let sum = surplus_by_all (net_in c.args.graph.now []) (numbers c.args.loads.now) v in
-          let here = c.loop-arc.invariant.2 v h in
+          let here = c.loop-arc.invariant.3 v h in
           search rules;
     }
