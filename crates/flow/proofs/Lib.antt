@@ -1,8 +1,6 @@
 pub mod Counts
 pub mod Marks
-pub mod Loads
 pub mod Listing
-pub mod Queuing
 pub mod Stepping
 pub mod Sources
 pub mod Pushes

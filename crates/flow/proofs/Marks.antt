@@ -182,12 +182,6 @@ pub record Passing (net : Net) (low high load : ℕ → ℤ) (before : List (Opt
   pub grown : Grown net low high load before further labels
   pub closed : further ≡ false → (k : ℕ) → k < a → ClosedIn net low high load before k
 
-pub pass_starts : (net : Net) (low high load : ℕ → ℤ) (labels : List (Option Label)) → Labelled net low high load labels → Passing net low high load labels false labels 0
-pass_starts net low high load labels labelled = record {
-  grown = record { labelled = labelled; no_more = omega arith; fewer = λ e. absurd (both_ways false refl e); same = λ e. refl };
-  closed = λ e k h. absurd (omega arith);
-}
-
 pub pass_on : (net : Net) (low high load : ℕ → ℤ) (before labels first second : List (Option Label)) (further along against : Bool) (a : ℕ)
     → Passing net low high load before further labels a
     → Extended net low high load before (further || along) first (net.tail a) (net.head a) (high a -ℤ load a)

@@ -1,5 +1,5 @@
 -- An amount pushed along the way on which a node was reached moves from the start of the way to its end.
-use Rattle.std.proofs.Common.{◌≡◌, ℕ, ◌<◌, ◌≤◌, Bool, true, false, cond, eqb, List, [], length, set, ℤ, pos, ◌+ℤ◌, ◌-ℤ◌, neg_ℤ, ◌≤ℤ◌, Some, None, Option, IsSomeAnd, subst, sym, refl, ap, ◌∙◌, inl, inr, arith}
+use Rattle.std.proofs.Common.{◌≡◌, ℕ, ◌<◌, ◌≤◌, Bool, true, false, cond, eqb, List, [], length, set, ℤ, pos, ◌+ℤ◌, ◌-ℤ◌, neg_ℤ, ◌≤ℤ◌, Some, None, Option, IsSomeAnd, sym, refl, ap, ◌∙◌, inl, inr, arith}
 use Rattle.std.proofs.lemmas.Int.{ints}
 use Rattle.std.proofs.lemmas.List.{get_or-set_same, get_or-set_other, length-set}
 use Rattle.std.proofs.lemmas.Bool.{cases_eq}
@@ -92,12 +92,6 @@ module _ (graph : Graph) (spans : List Span) (start : List ℤ) (labels : List (
         kept = λ v h other step is noted order. refl;
         moved = λ v h. omega (arith, ints);
       }
-
-  -- at a node to which no step leads, the way starts
-  pub push_ends : (loads : List ℤ) (node : ℕ) → Pushing graph spans start labels target by loads node → step_of (label_of labels node) ≡ None
-      → IsSomeAnd (label_of labels node) (λ label. (label.step ≡ None) × (by ≤ℤ label.width))
-  push_ends loads node pushing first =
-      subst (λ o. IsSomeAnd o (λ label. (label.step ≡ None) × (by ≤ℤ label.width))) (sym pushing.at) (ap step_of (sym pushing.at) ∙ first, pushing.amount)
 
   module _ (loads : List ℤ) (node : ℕ) (pushing : Pushing graph spans start labels target by loads node) (s : Step) (told : step_of (label_of labels node) ≡ Some s) where
     noted : pushing.label.step ≡ Some s

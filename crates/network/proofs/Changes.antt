@@ -1,4 +1,4 @@
--- How the surpluses and the charge change with the load of one arc.
+-- How the surpluses change with the load of one arc, and what is the same at the same loads or prices.
 use Rattle.std.proofs.Common.{◌≡◌, ℕ, ◌<◌, eqb, List, get_or, set, ℤ, ◌+ℤ◌, ◌-ℤ◌, ◌*ℤ◌, sym, ap, ◌∙◌, arith}
 use Rattle.std.proofs.lemmas.Int.{ints}
 use Rattle.std.proofs.lemmas.List.{get_or-set_other}
@@ -50,7 +50,3 @@ module _ (net : Net) (load other : ℕ → ℤ) (a : ℕ) (within : a < net.arcs
   pub surplus_changed : (v : ℕ) → surplus net other v ≡ surplus net load v +ℤ counted (eqb (net.head a) v) (other a -ℤ load a) -ℤ counted (eqb (net.tail a) v) (other a -ℤ load a)
   surplus_changed v =
       omega (arith, ints, end_changed net.arcs a v net.head load other within alike, end_changed net.arcs a v net.tail load other within alike)
-
-  pub charge_changed : charge net other ≡ charge net load +ℤ (amount_at (net.cost a) (other a) -ℤ amount_at (net.cost a) (load a))
-  charge_changed =
-      sum_changed net.arcs a (λ b. amount_at (net.cost b) (load b)) (λ b. amount_at (net.cost b) (other b)) within (λ b h away. ap (amount_at (net.cost b)) (alike b h away))

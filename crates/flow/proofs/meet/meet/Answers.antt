@@ -8,13 +8,9 @@ use Rattle.network.proofs.Graphs.{graph_sound}
 use Rattle.flow.proofs.Relief.{none_over}
 use Rattle.flow.proofs.meet.meet.Goals as goal
 
-pub returns : goal.returns
-returns c = record {
-  ready = c.loop-over.invariant.0;
-  met = record {
-    held = c.loop-over.invariant.0.held;
-    balanced = none_over (net_in c.args.graph.now []) (numbers c.loop-over.loads) (sound_ends c.args.graph.now.nodes.now c.args.graph.now.arcs.now [] (graph_sound c.args.graph.now)) c.requires.balanced
-        (λ v h. omega (arith, ints, c.in_default.ensures v h, c.loop-over.invariant.1.told v h));
-  };
-  barred = tt;
+pub returns-clause-met : goal.returns-clause-met
+returns-clause-met c = record {
+  held = c.loop-over.invariant.0.held;
+  balanced = none_over (net_in c.args.graph.now []) (numbers c.loop-over.loads) (sound_ends c.args.graph.now.nodes.now c.args.graph.now.arcs.now [] (graph_sound c.args.graph.now)) c.requires.balanced
+      (λ v h. omega (arith, ints, c.in_default.ensures v h, c.loop-over.invariant.1.told v h));
 }

@@ -9,8 +9,8 @@ use Rattle.network.proofs.Graphs.{graph_sound}
 use Rattle.flow.proofs.Gathered.{gathered, limits_here}
 use Rattle.flow.proofs.surpluses.surpluses_of.Goals as goal
 
-pub transfer-requires : goal.transfer-requires
-transfer-requires c =
+pub transfer-requires-clause-limits : goal.transfer-requires-clause-limits
+transfer-requires-clause-limits c =
     let a = length c.loop-arc.yielded in
     let turn = zip_turn c.args.graph.now.arcs.now c.args.loads.now c.loop-arc.yielded c.into_iter-arc-iterator.result c.loop-arc.arc-iterator c.next.new.self _ (cc) (cc) c.loop-arc.yielded_by _ c.in-Some.is c.next.ensures.steps in
     let arc = turn.2 no_arc in
@@ -19,7 +19,7 @@ transfer-requires c =
     let tail = (graph_sound c.args.graph.now).tails a turn.0 in
     let head = (graph_sound c.args.graph.now).heads a turn.0 in
     let here = limits_here c.args.graph.now c.args.loads.now c.requires.limits c.loop-arc.surpluses a turn.0 c.loop-arc.invariant.3 in
-    rw (arc, given) (record { from = omega arith; to = omega arith; limits = omega (arith, ints); amount = omega (arith, ints) })
+    rw (arc) (omega (arith, ints))
 
 pub loop-arc-preserved : goal.loop-arc-preserved
 loop-arc-preserved c =

@@ -1,12 +1,6 @@
 -- Each arc is tried along and against its direction.
-use Rattle.flow.proofs.Marks.{stepped, step_on, pass_on, pass_starts}
+use Rattle.flow.proofs.Marks.{stepped, step_on, pass_on}
 use Rattle.flow.proofs.loaded.Loaded.spread.Goals as goal
-
-pub loop-arc-init : goal.loop-arc-init
-loop-arc-init c = pass_starts _ _ _ _ _ c.requires
-
-pub step_over-along-requires-clause-labels : goal.step_over-along-requires-clause-labels
-step_over-along-requires-clause-labels c = c.loop-arc.invariant.grown.labelled
 
 pub loop-arc-preserved : goal.loop-arc-preserved
 loop-arc-preserved c =
