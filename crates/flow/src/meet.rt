@@ -13,7 +13,7 @@ ghost use Rattle.flow.specs.Surpluses.{Tells, excess};
 use crate::loaded::Loaded;
 use crate::near::{Near, near_of};
 use crate::push::push;
-use crate::reach::{Label, first_over, source};
+use crate::reach::{Label, first_over, label_sources};
 use crate::sets::NodeSet;
 use crate::spans::Span;
 use crate::surpluses::{surpluses_of, transfer};
@@ -41,6 +41,7 @@ fn relieve(
     loads: &mut [i64],
     surpluses: &mut [i64; MOST_NODES],
     near: &Near,
+    labels: &mut [Option<Label>; MOST_NODES],
     over: usize,
 ) -> Result<(), NodeSet>
     requires ready { Ready graph.now spans.now loads.old }
@@ -53,18 +54,18 @@ fn relieve(
     ensures less { OnOk result (excess (length graph.now.nodes.now) surpluses.new < excess (length graph.now.nodes.now) surpluses.old) }
     ensures barred { IfErr result (λ set. OverFullWithin (net_in graph.now []) (low_of spans.now) (high_of spans.now) (member set)) }
 {
-    let mut labels = surpluses.map(source);
+    label_sources(graph, surpluses, labels);
     let loaded = Loaded {
         graph: *graph,
         spans,
         loads,
     };
-    loaded.explore(surpluses, near, &mut labels);
-    let Some(target) = loaded.reach(surpluses, &mut labels) else {
-        return Err(reached_of(&labels));
+    loaded.explore(surpluses, near, labels);
+    let Some(target) = loaded.reach(surpluses, labels) else {
+        return Err(reached_of(labels));
     };
     let by = labels[target].unwrap().width.min(-surpluses[target]);
-    let start = push(graph, spans, loads, &labels, target, by);
+    let start = push(graph, spans, loads, labels, target, by);
     transfer(surpluses, start, target, by);
     Ok(())
 }
@@ -79,8 +80,17 @@ pub fn meet(graph: &Graph<'_>, spans: &[Span], loads: &mut [i64]) -> Result<(), 
 {
     let near = near_of(graph);
     let mut surpluses = surpluses_of(graph, loads);
+    let mut labels = [None; MOST_NODES];
     while let Some(over) = first_over(graph, &surpluses) {
-        relieve(graph, spans, loads, &mut surpluses, &near, over)?;
+        relieve(
+            graph,
+            spans,
+            loads,
+            &mut surpluses,
+            &near,
+            &mut labels,
+            over,
+        )?;
     }
     Ok(())
 }

@@ -1,6 +1,5 @@
 -- A way is found, along which an amount is pushed and noted; or no way is found.
-use Rattle.std.proofs.Common.{◌≡◌, [], Some, None, IsSomeAnd, subst, sym, to_z, of_z, ◌≤ℤ◌, pos, ◌-ℤ◌, arith, w64, SFits, rules}
-use borrow.Author.Tests.{tests}
+use Rattle.std.proofs.Common.{◌≡◌, [], Some, IsSomeAnd, subst, sym, to_z, of_z, ◌≤ℤ◌, pos, ◌-ℤ◌, arith, w64, SFits, rules}
 use Rattle.std.proofs.lemmas.Int.{ints, to_z-of_z}
 use Rattle.network.specs.Graphs.{net_in}
 use Rattle.network.proofs.Nets.{sound_ends}
@@ -29,8 +28,7 @@ explore-requires c = record {
   told = c.requires.tells.long;
   near = c.requires.near;
   labels = labelled_sources c.args.graph.now c.args.spans.now c.args.loads.now c.args.surpluses.now c.requires.ready c.requires.tells
-      c.map-labels.result (omega (arith, c.map-labels.ensures.items.long, c.args.graph.now.few_nodes))
-      (λ v h. let made = c.map-labels.ensures.items.at v (pos 0) None (omega (arith, c.args.graph.now.few_nodes)) in search (rules, tests));
+      c.label_sources.new.labels (omega (arith, c.args.graph.now.few_nodes)) c.label_sources.ensures;
 }
 
 pub reach-requires : goal.reach-requires
