@@ -22,5 +22,5 @@ pub record Listed (n : ℕ) (lists : Lists) : Type 0 where
 
 -- Both the lists of the arcs that leave each node and those of the arcs that enter it are such lists.
 pub record Nearby (n : ℕ) (near : Near) : Type 0 where
-  pub leaving_listed : Listed n near.leaving
-  pub entering_listed : Listed n near.entering
+  pub leaving_listed : Listed n near.leaving.now
+  pub entering_listed : Listed n near.entering.now

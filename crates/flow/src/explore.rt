@@ -67,7 +67,7 @@ impl Loaded<'_> {
     }
 
     // Tries the steps from a node, over the arcs that leave it and against those that enter it.
-    fn visit(&self, near: &Near, node: usize, labels: &mut [Option<Label>], queue: &mut Queue)
+    fn visit(&self, near: &Near<'_>, node: usize, labels: &mut [Option<Label>], queue: &mut Queue)
         requires near { Nearby (length self.now.graph.arcs.now) near.now }
         requires place { node < length self.now.graph.nodes.now }
         requires labels { LabelledOn self.now labels.old }
@@ -75,13 +75,13 @@ impl Loaded<'_> {
         ensures labelled { LabelledOn self.now labels.new }
         ensures queued { Queued (length self.now.graph.nodes.now) labels.new queue.new.items }
     {
-        self.follow(&near.leaving, node, true, labels, queue);
-        self.follow(&near.entering, node, false, labels, queue);
+        self.follow(near.leaving, node, true, labels, queue);
+        self.follow(near.entering, node, false, labels, queue);
     }
 
     // Spreads the labels from node to node, in the order in which the nodes are reached, until the turn comes to a node of negative surplus.
     // It promises no more than sound labels: whether no step leads further is for a pass over all arcs to tell.
-    pub(crate) fn explore(&self, surpluses: &[i64], near: &Near, labels: &mut [Option<Label>])
+    pub(crate) fn explore(&self, surpluses: &[i64], near: &Near<'_>, labels: &mut [Option<Label>])
         requires told { length self.now.graph.nodes.now ≤ length surpluses.now }
         requires near { Nearby (length self.now.graph.arcs.now) near.now }
         requires labels { LabelledOn self.now labels.old }

@@ -11,7 +11,7 @@ ghost use Rattle.flow.specs.Labels.{reached_in};
 ghost use Rattle.flow.specs.Surpluses.{Tells, excess};
 
 use crate::loaded::Loaded;
-use crate::near::{Near, near_of};
+use crate::near::{Near, lists_of};
 use crate::push::push;
 use crate::reach::{Label, first_over, label_sources};
 use crate::sets::NodeSet;
@@ -40,7 +40,7 @@ fn relieve(
     spans: &[Span],
     loads: &mut [i64],
     surpluses: &mut [i64; MOST_NODES],
-    near: &Near,
+    near: &Near<'_>,
     labels: &mut [Option<Label>; MOST_NODES],
     over: usize,
 ) -> Result<(), NodeSet>
@@ -78,7 +78,12 @@ pub fn meet(graph: &Graph<'_>, spans: &[Span], loads: &mut [i64]) -> Result<(), 
     ensures met { OnOk result (Met (net_in graph.now []) (low_of spans.now) (high_of spans.now) (numbers loads.new)) }
     ensures barred { IfErr result (λ set. OverFullWithin (net_in graph.now []) (low_of spans.now) (high_of spans.now) (member set)) }
 {
-    let near = near_of(graph);
+    let leaving = lists_of(graph, true);
+    let entering = lists_of(graph, false);
+    let near = Near {
+        leaving: &leaving,
+        entering: &entering,
+    };
     let mut surpluses = surpluses_of(graph, loads);
     let mut labels = [None; MOST_NODES];
     while let Some(over) = first_over(graph, &surpluses) {

@@ -1,7 +1,7 @@
 // The arcs at each node, in lists that lie in fixed arrays.
 ghost use Rattle.std.specs.Prelude.{◌≡◌, ℕ, ◌<◌, ◌≤◌, length, if◌then◌else◌, Some, IfSome, slice_set};
 ghost use Rattle.std.specs.Iterator.{at_most};
-ghost use Rattle.flow.specs.Near.{Listed, Nearby, listed_at, past};
+ghost use Rattle.flow.specs.Near.{Listed, listed_at, past};
 
 use network::graph::Graph;
 use network::records::{Arc, MOST_ARCS, MOST_NODES};
@@ -38,11 +38,11 @@ impl Iterator for Walk<'_> {
     }
 }
 
-// The arcs that leave each node, and those that enter it.
+// The lists of the arcs that leave each node, and of those that enter it.
 #[derive(Clone, Copy)]
-pub struct Near {
-    pub leaving: Lists,
-    pub entering: Lists,
+pub struct Near<'a> {
+    pub leaving: &'a Lists,
+    pub entering: &'a Lists,
 }
 
 // The node from which a step over an arc starts, along the arc or against it.
@@ -71,7 +71,7 @@ fn link(lists: &mut Lists, node: usize, arc: usize)
 }
 
 // Lists each arc at the node from which a step over it starts.
-fn lists_of(graph: &Graph<'_>, forward: bool) -> Lists
+pub(crate) fn lists_of(graph: &Graph<'_>, forward: bool) -> Lists
     ensures { Listed (length graph.now.arcs.now) result }
 {
     let mut lists = Lists {
@@ -82,14 +82,4 @@ fn lists_of(graph: &Graph<'_>, forward: bool) -> Lists
         link(&mut lists, start_of(arc, forward), a);
     }
     lists
-}
-
-// Lists the arcs at each node.
-pub fn near_of(graph: &Graph<'_>) -> Near
-    ensures { Nearby (length graph.now.arcs.now) result }
-{
-    Near {
-        leaving: lists_of(graph, true),
-        entering: lists_of(graph, false),
-    }
 }
