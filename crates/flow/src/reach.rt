@@ -10,6 +10,7 @@ use crate::loaded::Loaded;
 use crate::near::{end_of, start_of};
 use crate::spans::Span;
 use network::graph::Graph;
+use network::records::MOST_NODES;
 
 // A step over an arc, along it or against it, from the node where it starts.
 #[derive(Clone, Copy, Debug, PartialEq, Eq)]
@@ -58,7 +59,7 @@ pub(crate) fn label_sources(graph: &Graph<'_>, surpluses: &[i64], labels: &mut [
 fn extend(labels: &mut [Option<Label>], step: Step, to: usize, room: i64) -> bool
     requires start { step.from < length labels.old }
     requires end { to < length labels.old }
-    requires orders { (label : Label) → label_of labels.old step.from ≡ Some label → label.order < 64 }
+    requires orders { (label : Label) → label_of labels.old step.from ≡ Some label → label.order < MOST_NODES }
     ensures answer { result ≡ extends labels.old step.from to room }
     ensures labelled { labels.new ≡ (if result then slice_set labels.old to (onward_from (label_of labels.old step.from) step room) else labels.old) }
 {
