@@ -3,7 +3,7 @@ ghost use Rattle.std.specs.Prelude.{◌≡◌, ◌<◌, map, length, pos, negsuc
 ghost use Rattle.cost.specs.Meaning.{Between};
 ghost use Rattle.network.specs.Network.{Meets, charge, least, floor};
 ghost use Rattle.network.specs.Graphs.{net_in};
-ghost use Rattle.network.specs.Records.{net_of, numbers, Sound, Within, Ranged};
+ghost use Rattle.network.specs.Records.{numbers, Within, Ranged};
 
 use crate::charge::charge_of;
 use crate::graph::Graph;
@@ -89,36 +89,4 @@ impl Graph<'_> {
         let charge = charge_of(costs, loads);
         (floor, charge)
     }
-}
-
-// The floor of prices, of nodes and arcs lent one by one.
-pub fn floor_of<C: Cost>(nodes: &[Node], arcs: &[Arc], costs: &[C], prices: &[i64]) -> i64
-    requires sound { Sound nodes.now arcs.now }
-    requires costed { length costs.now ≡ length arcs.now }
-    requires priced { length prices.now ≡ length nodes.now }
-    requires limits { Within 100000000 prices.now }
-    ensures { result ≡ floor (net_of nodes.now arcs.now (map C.Cost.meaning costs.now)) (numbers prices.now) }
-{
-    Graph::of(nodes, arcs).floor_of(costs, prices)
-}
-
-// The floor and the charge, of nodes and arcs lent one by one.
-pub fn floor_and_charge<C: Cost>(
-    nodes: &[Node],
-    arcs: &[Arc],
-    costs: &[C],
-    loads: &[i64],
-    prices: &[i64],
-) -> (i64, i64)
-    requires sound { Sound nodes.now arcs.now }
-    requires costed { length costs.now ≡ length arcs.now }
-    requires loaded { length loads.now ≡ length arcs.now }
-    requires ranges { Ranged (map C.Cost.meaning costs.now) loads.now }
-    requires priced { length prices.now ≡ length nodes.now }
-    requires limits { Within 100000000 prices.now }
-    ensures promised { result.0 ≡ floor (net_of nodes.now arcs.now (map C.Cost.meaning costs.now)) (numbers prices.now) }
-    ensures charged { result.1 ≡ charge (net_of nodes.now arcs.now (map C.Cost.meaning costs.now)) (numbers loads.now) }
-    ensures duality { Meets (net_of nodes.now arcs.now (map C.Cost.meaning costs.now)) (numbers loads.now) → result.0 ≤ℤ result.1 }
-{
-    Graph::of(nodes, arcs).floor_and_charge(costs, loads, prices)
 }

@@ -4,10 +4,10 @@ ghost use Rattle.cost.specs.Meaning.{Between};
 ghost use Rattle.network.specs.Sums.{counted};
 ghost use Rattle.network.specs.Network.{surplus};
 ghost use Rattle.network.specs.Graphs.{net_in};
-ghost use Rattle.network.specs.Records.{net_of, numbers, Sound, Within, out_of_range, unmet};
+ghost use Rattle.network.specs.Records.{numbers, Within, out_of_range, unmet};
 
 use crate::graph::Graph;
-use crate::records::{Arc, Node};
+use crate::records::Arc;
 use cost::costs::{Cost, in_range};
 
 // The place, from 1, of the first arc whose load lies outside the range of its cost.
@@ -62,25 +62,4 @@ impl Graph<'_> {
         }
         None
     }
-}
-
-// The supply of a node and the loads that enter it, less the loads that leave it.
-pub fn surplus_at(nodes: &[Node], arcs: &[Arc], loads: &[i64], node: usize) -> i64
-    requires sound { Sound nodes.now arcs.now }
-    requires loaded { length loads.now ≡ length arcs.now }
-    requires limits { Within 10000 loads.now }
-    requires place { node < length nodes.now }
-    ensures { result ≡ surplus (net_of nodes.now arcs.now []) (numbers loads.now) node }
-{
-    Graph::of(nodes, arcs).surplus_at(loads, node)
-}
-
-// The place, from 1, of the first node whose surplus is not 0.
-pub fn first_unmet(nodes: &[Node], arcs: &[Arc], loads: &[i64]) -> Option<usize>
-    requires sound { Sound nodes.now arcs.now }
-    requires loaded { length loads.now ≡ length arcs.now }
-    requires limits { Within 10000 loads.now }
-    ensures { result ≡ unmet (net_of nodes.now arcs.now []) (numbers loads.now) }
-{
-    Graph::of(nodes, arcs).first_unmet(loads)
 }
