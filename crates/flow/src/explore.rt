@@ -14,7 +14,7 @@ use network::records::MOST_NODES;
 type Queue = ArrayVec<usize, MOST_NODES>;
 
 impl Loaded<'_> {
-    // A queue of the nodes that are labelled as reached.
+    // A queue of the nodes that are labelled as reached. Past the nodes a list of labels may hold anything, so the nodes are counted.
     fn reached_now(&self, labels: &[Option<Label>]) -> Queue
         requires { length self.now.graph.nodes.now ≤ length labels.now }
         ensures { Queued (length self.now.graph.nodes.now) labels.now result.items }

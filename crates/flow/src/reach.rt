@@ -1,5 +1,4 @@
 // Which nodes can be reached from those of positive surplus, over steps that the loads leave open.
-
 ghost use Rattle.std.specs.Prelude.{◌≡◌, ℕ, ◌<◌, ◌≤◌, true, false, [], length, Some, pos, ◌≤ℤ◌, ◌<ℤ◌, if◌then◌else◌, MatchOption, slice_set};
 ghost use Rattle.network.specs.Graphs.{net_in};
 ghost use Rattle.network.specs.Records.{numbers};

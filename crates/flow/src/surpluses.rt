@@ -8,7 +8,7 @@ ghost use Rattle.flow.specs.Surpluses.{Tells};
 use network::graph::Graph;
 use network::records::{MOST_NODES, Node};
 
-// The supply of each node.
+// The supply of each node. There are more places than nodes, so each node writes its own.
 fn supplies_of(nodes: &[Node]) -> [i64; MOST_NODES]
     requires { length nodes.now ≤ MOST_NODES }
     ensures { (v : ℕ) → v < length nodes.now → at result v ≡ (net_of nodes.now [] []).supply v }
