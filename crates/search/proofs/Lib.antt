@@ -1,7 +1,11 @@
+pub mod Costed
 pub mod Turning
-pub mod Pairwise
+pub mod Written
 pub mod Ascent
 pub mod Attempts
 pub mod Climb
 pub mod Drawing
 pub mod Whole
+pub mod Lowest
+pub mod Paired
+pub mod Narrowing

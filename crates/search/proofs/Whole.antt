@@ -1,47 +1,47 @@
 -- The search within the whole range of each cost, and what a routing and prices say of the network.
-use Rattle.std.proofs.Common.{◌≡◌, ℕ, ◌<◌, ◌≤◌, Bool, false, List, [], length, ℤ, pos, ◌≤ℤ◌, sym, ap, ◌∙◌, arith}
+use Rattle.std.proofs.Common.{◌≡◌, ℕ, ◌-◌, ◌<◌, ◌≤◌, Bool, false, List, [], length, take, ℤ, pos, sym, ap, ◌∙◌, arith}
 use Rattle.std.proofs.lemmas.Int.{ints}
 use Rattle.cost.specs.Meaning.{Meaning, last, Lawful, Between}
 use Rattle.network.specs.Sums.{counted}
 use Rattle.network.specs.Network.{Net, Ends, Meets, charge, floor, leaves, enters, OverFull}
-use Rattle.network.specs.Records.{net_of, numbers, cost_of, Sound}
+use Rattle.network.specs.Graphs.{net_in}
 use Rattle.network.specs.declared.records.Node.{Node}
 use Rattle.network.specs.declared.records.Arc.{Arc}
 use Rattle.network.proofs.Sums.{sum_same}
 use Rattle.network.proofs.Changes.{surplus_same, charge_same, floor_same}
+use Rattle.search.specs.Networks.{network_of}
+use Rattle.search.specs.declared.networks.Network.{Network}
+use Rattle.search.proofs.Costed.{network_lawful}
+use Rattle.search.proofs.Attempts.{held_front}
+use Rattle.search.specs.Spans.{HeldIn}
 use Rattle.search.specs.Settled.{loads_of, prices_of, marks_of, Settled, Barred}
-use Rattle.flow.specs.Within.{Held, Met, OverFullWithin, Ready}
+use Rattle.flow.specs.Spans.{low_of, high_of}
+use Rattle.flow.specs.declared.spans.Span.{Span}
+use Rattle.flow.specs.Within.{OverFullWithin, Ready}
 
-module _ (nodes : List Node) (arcs : List Arc) (costs : List Meaning) (lawful : (a : ℕ) → a < length arcs → Lawful (cost_of costs a)) (lows highs : List ℤ)
-    (low_is : (a : ℕ) → a < length arcs → numbers lows a ≡ pos (cost_of costs a).first) (high_is : (a : ℕ) → a < length arcs → numbers highs a ≡ pos (last (cost_of costs a))) where
+module _ {C : Type 0} (meaning : C → Meaning) (lawful : (cost : C) → Lawful (meaning cost)) (network : Network C) (spans : List Span) (within : length network.graph.arcs.now ≤ length spans)
+    (low_is : (a : ℕ) → a < length network.graph.arcs.now → low_of spans a ≡ pos ((network_of meaning network).cost a).first)
+    (high_is : (a : ℕ) → a < length network.graph.arcs.now → high_of spans a ≡ pos (last ((network_of meaning network).cost a))) where
   abbrev net : Net
-  net = net_of nodes arcs costs
+  net = network_of meaning network
 
-  pub whole_order : (a : ℕ) → a < length arcs → numbers lows a ≤ℤ numbers highs a
-  whole_order a h = omega (arith, ints, low_is a h, high_is a h)
-
-  pub whole_ready : (loads : List ℤ) → Sound nodes arcs → length arcs ≤ length lows → length arcs ≤ length highs → length arcs ≤ length loads → Held (length arcs) (numbers lows) (numbers highs) (numbers loads)
-      → Ready nodes arcs lows highs loads
-  whole_ready loads sound low_long high_long long held = record {
-    sound = sound;
-    lows_long = low_long;
-    highs_long = high_long;
+  -- loads that the spans hold are ready to be changed into a routing
+  pub whole_ready : (loads : List ℤ) → net.arcs ≤ length loads → HeldIn (take (net.arcs - 0) spans) loads → Ready network.graph spans loads
+  whole_ready loads long held = record {
+    spans_long = within;
     loads_long = long;
     low_limit = λ a h. omega (arith, ints, low_is a h);
-    high_limit = λ a h. omega (arith, ints, high_is a h, (lawful a h).last_limit);
-    held = held;
+    high_limit = λ a h. omega (arith, ints, high_is a h, (network_lawful meaning network lawful a h).last_limit);
+    held = held_front net.arcs spans loads within (λ a h. omega (arith, ints, low_is a h, high_is a h)) held;
   }
 
-  pub whole_meets : (load : ℕ → ℤ) → Met (net_of nodes arcs []) (numbers lows) (numbers highs) load → Meets net load
-  whole_meets load met = record { routing = λ a h. omega (arith, ints, low_is a h, high_is a h, met.held a h); balanced = met.balanced }
-
-  pub whole_barred : (marked : ℕ → Bool) → OverFullWithin (net_of nodes arcs []) (numbers lows) (numbers highs) marked → OverFull net marked
+  pub whole_barred : (marked : ℕ → Bool) → OverFullWithin (net_in network.graph []) (low_of spans) (high_of spans) marked → OverFull net marked
   whole_barred marked full =
       omega (
         arith,
         ints,
-        sum_same (length arcs) (λ a. counted (leaves net marked a) (numbers highs a)) (λ a. counted (leaves net marked a) (pos (last (cost_of costs a)))) (λ a h. ap (counted (leaves net marked a)) (high_is a h)),
-        sum_same (length arcs) (λ a. counted (enters net marked a) (numbers lows a)) (λ a. counted (enters net marked a) (pos (cost_of costs a).first)) (λ a h. ap (counted (enters net marked a)) (low_is a h)),
+        sum_same net.arcs (λ a. counted (leaves net marked a) (high_of spans a)) (λ a. counted (leaves net marked a) (pos (last (net.cost a)))) (λ a h. ap (counted (leaves net marked a)) (high_is a h)),
+        sum_same net.arcs (λ a. counted (enters net marked a) (low_of spans a)) (λ a. counted (enters net marked a) (pos (net.cost a).first)) (λ a h. ap (counted (enters net marked a)) (low_is a h)),
       )
 
 -- loads that agree meet alike, and marks that agree are over full alike

@@ -1,4 +1,7 @@
 pub mod Turns
 pub mod Prices
 pub mod Drawn
+pub mod Spans
+pub mod Networks
+pub mod Searches
 pub mod Settled

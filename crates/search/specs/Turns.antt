@@ -20,11 +20,14 @@ pub record Narrow (m : Meaning) (tense step low high : ℤ) : Type 0 where
   pub low_turns : Turns m (tense -ℤ step +ℤ pos 1) low
   pub high_turns : Turns m (tense +ℤ step) high
 
+-- Each arc of a kind is so narrowed.
+abbrev pub NarrowedWhere : (ℕ → Type 0) → Net → (ℕ → ℤ) → ℤ → (ℕ → ℤ) → (ℕ → ℤ) → Type 0
+NarrowedWhere Kind net price step low high = (a : ℕ) → a < net.arcs → Kind a → Narrow (net.cost a) (tension net price a) step (low a) (high a)
+
 -- Each arc is so narrowed.
 abbrev pub Narrowed : Net → (ℕ → ℤ) → ℤ → (ℕ → ℤ) → (ℕ → ℤ) → Type 0
 Narrowed net price step low high = (a : ℕ) → a < net.arcs → Narrow (net.cost a) (tension net price a) step (low a) (high a)
 
--- Each arc that has both ends in a set of nodes, or none, is so narrowed.
-abbrev pub NarrowedBeside : Net → (ℕ → ℤ) → ℤ → (ℕ → Bool) → (ℕ → ℤ) → (ℕ → ℤ) → Type 0
-NarrowedBeside net price step marked low high =
-    (a : ℕ) → a < net.arcs → marked (net.tail a) ≡ marked (net.head a) → Narrow (net.cost a) (tension net price a) step (low a) (high a)
+-- Both ends of an arc are in a set of nodes, or none.
+abbrev pub Beside : Net → (ℕ → Bool) → ℕ → Type 0
+Beside net marked a = marked (net.tail a) ≡ marked (net.head a)

@@ -1,114 +1,132 @@
 // From a routing that meets the network to a cheapest one, with the prices that show it.
-ghost use Rattle.std.specs.Prelude.{◌≡◌, ℕ, ◌<◌, ◌≤◌, true, false, map, length, pos, ◌+ℤ◌, ◌≤ℤ◌};
+ghost use Rattle.std.specs.Prelude.{◌≡◌, ℕ, ◌<◌, ◌≤◌, length, pos, ◌+ℤ◌, ◌≤ℤ◌, ◌<ℤ◌, OnOk, IfErr};
 ghost use Rattle.cost.specs.Meaning.{Between};
-ghost use Rattle.network.specs.Sums.{sum};
 ghost use Rattle.network.specs.Network.{Meets, floor};
-ghost use Rattle.network.specs.Records.{net_of, numbers, Sound};
-ghost use Rattle.flow.specs.Labels.{reached_in};
-ghost use Rattle.search.specs.Turns.{Narrowed, NarrowedBeside};
+ghost use Rattle.network.specs.Records.{numbers};
+ghost use Rattle.flow.specs.Sets.{member};
 ghost use Rattle.search.specs.Prices.{raised, Modest, AllSlack};
 
-use crate::narrow::{hold, narrow_due};
+use crate::narrow::hold;
+use crate::networks::Network;
 use cost::costs::Cost;
 use flow::meet::meet;
-use flow::reach::{BLANK, Label};
-use network::records::{Arc, Node};
+use flow::sets::NodeSet;
+use flow::spans::Span;
+use network::records::{Arc, MOST_ARCS, MOST_NODES};
 
-// Raises the prices of the nodes that are labelled as reached.
-fn raise(nodes: &[Node], labels: &[Label], step: i64, prices: &mut [i64])
-    requires long { length nodes.now ≤ length labels.now }
-    requires priced { length nodes.now ≤ length prices.old }
-    requires modest { Modest (length nodes.now) prices.old }
-    requires step { Between (pos 1) (pos 1048576) step }
-    ensures { (v : ℕ) → v < length nodes.now → numbers prices.new v ≡ raised (numbers prices.old) (reached_in labels.now) step v }
+// Where a search has come to: a price for each node, and for each arc the span of the loads that are slack within a step of its
+// tension.
+#[derive(Drop)]
+struct Search<'a, C> {
+    network: &'a Network<'a, C>,
+    prices: [i64; MOST_NODES],
+    step: i64,
+    spans: [Span; MOST_ARCS],
+    ghost modest: { Modest (length network.now.graph.nodes.now) prices },
+    ghost step_from: { pos 1 ≤ℤ step },
+    ghost step_to: { step ≤ℤ pos 1048576 },
+    ghost priced: { length prices ≡ 64 },
+    ghost spanned: { length spans ≡ 256 },
+}
+
+// Raises the prices of a set of nodes.
+fn raise_in(set: &NodeSet, step: i64, prices: &mut [i64])
+    requires { (v : ℕ) → v < length prices.old → Between (pos 0) (pos 1000000000000000) (raised (numbers prices.old) (member set.now) step v) }
+    ensures { (v : ℕ) → v < length prices.old → numbers prices.new v ≡ raised (numbers prices.old) (member set.now) step v }
 {
-    for v in 0..nodes.len() {
-        if labels[v].reached {
-            prices[v] += step;
+    for (v, price) in prices.iter_mut().enumerate() {
+        if set.contains(v) {
+            *price += step;
         }
     }
 }
 
-// Looks for a routing that meets the network with each load slack within a step of its tension. Where there is none, the nodes that
-// are labelled as reached are those whose prices to raise.
-fn attempt<C: Cost>(
-    nodes: &[Node],
-    arcs: &[Arc],
-    costs: &[C],
-    prices: &[i64],
-    step: i64,
-    anew: bool,
-    lows: &mut [i64],
-    highs: &mut [i64],
-    loads: &mut [i64],
-    labels: &mut [Label],
-) -> bool
-    requires sound { Sound nodes.now arcs.now }
-    requires costed { length costs.now ≡ length arcs.now }
-    requires lows_long { length arcs.now ≤ length lows.old }
-    requires highs_long { length arcs.now ≤ length highs.old }
-    requires loaded { length arcs.now ≤ length loads.old }
-    requires long { length nodes.now ≤ length labels.old }
-    requires priced { length nodes.now ≤ length prices.now }
-    requires modest { Modest (length nodes.now) prices.now }
-    requires step { Between (pos 1) (pos 1048576) step }
-    requires kept { anew ≡ false → NarrowedBeside (net_of nodes.now arcs.now (map C.Cost.meaning costs.now)) (numbers prices.now) step (reached_in labels.old) (numbers lows.old) (numbers highs.old) }
-    requires balanced { sum (length nodes.now) (net_of nodes.now arcs.now (map C.Cost.meaning costs.now)).supply ≡ pos 0 }
-    ensures narrowed { Narrowed (net_of nodes.now arcs.now (map C.Cost.meaning costs.now)) (numbers prices.now) step (numbers lows.new) (numbers highs.new) }
-    ensures met { result ≡ true → Meets (net_of nodes.now arcs.now (map C.Cost.meaning costs.now)) (numbers loads.new) }
-    ensures slack { result ≡ true → step ≡ pos 1 → AllSlack (net_of nodes.now arcs.now (map C.Cost.meaning costs.now)) (numbers prices.now) (numbers loads.new) }
-    ensures rises { result ≡ false → (floor (net_of nodes.now arcs.now (map C.Cost.meaning costs.now)) (numbers prices.now) +ℤ step) ≤ℤ floor (net_of nodes.now arcs.now (map C.Cost.meaning costs.now)) (raised (numbers prices.now) (reached_in labels.new) step) }
-{
-    narrow_due(nodes, arcs, costs, prices, step, anew, labels, lows, highs);
-    hold(arcs, lows, highs, loads);
-    meet(nodes, arcs, lows, highs, loads, labels)
-}
+impl<'a, C: Cost> Search<'a, C> {
+    ghost use Rattle.search.specs.Networks.{network_of};
+    ghost use Rattle.search.specs.Searches.{IsNarrow};
 
-// Changes the loads into those of a cheapest routing, and the prices into those at which each load is slack. The prices of a set of
-// nodes that bars every routing with loads slack near the tensions are raised, by steps that get smaller.
-pub(crate) fn improve<C: Cost>(
-    nodes: &[Node],
-    arcs: &[Arc],
-    costs: &[C],
-    loads: &mut [i64],
-    prices: &mut [i64],
-)
-    requires sound { Sound nodes.now arcs.now }
-    requires costed { length costs.now ≡ length arcs.now }
-    requires loaded { length arcs.now ≤ length loads.old }
-    requires priced { length nodes.now ≤ length prices.old }
-    requires balanced { sum (length nodes.now) (net_of nodes.now arcs.now (map C.Cost.meaning costs.now)).supply ≡ pos 0 }
-    requires meets { Meets (net_of nodes.now arcs.now (map C.Cost.meaning costs.now)) (numbers loads.old) }
-    requires start { (v : ℕ) → v < length nodes.now → numbers prices.old v ≡ pos 0 }
-    ensures meets { Meets (net_of nodes.now arcs.now (map C.Cost.meaning costs.now)) (numbers loads.new) }
-    ensures slack { AllSlack (net_of nodes.now arcs.now (map C.Cost.meaning costs.now)) (numbers prices.new) (numbers loads.new) }
-    ensures modest { Modest (length nodes.now) prices.new }
-{
-    let mut lows = [0; 256];
-    let mut highs = [0; 256];
-    let mut labels = [BLANK; 64];
-    let mut step = 1_048_576;
-    let mut anew = true;
-    loop {
-        if !attempt(
-            nodes,
-            arcs,
-            costs,
+    // A search that begins: all prices are 0, and the step is the largest.
+    fn begin(network: &'a Network<'a, C>) -> Search<'a, C>
+        ensures network { result.network.now ≡ network.now }
+        ensures prices { (v : ℕ) → v < length network.now.graph.nodes.now → numbers result.prices v ≡ pos 0 }
+        ensures step { result.step ≡ pos 1048576 }
+        ensures narrow { IsNarrow C.Cost.meaning result }
+    {
+        let prices = [0; MOST_NODES];
+        let step = 1_048_576;
+        let mut spans = [Span { low: 0, high: 0 }; MOST_ARCS];
+        network.narrow(&prices, step, |_| true, &mut spans);
+        Search {
+            network,
             prices,
             step,
-            anew,
-            &mut lows,
-            &mut highs,
-            loads,
-            &mut labels,
-        ) {
-            raise(nodes, &labels, step, prices);
-            anew = false;
-        } else if step == 1 {
-            return;
-        } else {
-            step /= 2;
-            anew = true;
+            spans,
+        }
+    }
+
+    // Looks for a routing that meets the network with each load in its span. Where there is none, it answers a set of nodes whose prices
+    // to raise.
+    fn attempt(&self, loads: &mut [i64]) -> Result<(), NodeSet>
+        requires narrow { IsNarrow C.Cost.meaning self.now }
+        requires loaded { length self.now.network.now.graph.arcs.now ≤ length loads.old }
+        ensures met { OnOk result (Meets (network_of C.Cost.meaning self.now.network.now) (numbers loads.new)) }
+        ensures slack { OnOk result (self.now.step ≡ pos 1 → AllSlack (network_of C.Cost.meaning self.now.network.now) (numbers self.now.prices) (numbers loads.new)) }
+        ensures rises { IfErr result (λ set. (floor (network_of C.Cost.meaning self.now.network.now) (numbers self.now.prices) +ℤ self.now.step) ≤ℤ floor (network_of C.Cost.meaning self.now.network.now) (raised (numbers self.now.prices) (member set) self.now.step)) }
+    {
+        let graph = &self.network.graph;
+        hold(&self.spans[0..graph.arcs.len()], loads);
+        meet(graph, &self.spans, loads)
+    }
+
+    // Raises the prices of a set of nodes by the step.
+    fn raise(&mut self, set: &NodeSet)
+        requires narrow { IsNarrow C.Cost.meaning self.old }
+        requires limits { (v : ℕ) → v < length self.old.network.now.graph.nodes.now → Between (pos 0) (pos 1000000000000000) (raised (numbers self.old.prices) (member set.now) self.old.step v) }
+        ensures network { self.new.network.now ≡ self.old.network.now }
+        ensures prices { (v : ℕ) → v < length self.old.network.now.graph.nodes.now → numbers self.new.prices v ≡ raised (numbers self.old.prices) (member set.now) self.old.step v }
+        ensures step { self.new.step ≡ self.old.step }
+        ensures narrow { IsNarrow C.Cost.meaning self.new }
+    {
+        let network = self.network;
+        let nodes = network.graph.nodes.len();
+        raise_in(set, self.step, &mut self.prices[0..nodes]);
+        let crosses = |arc: &Arc| set.contains(arc.tail) != set.contains(arc.head);
+        network.narrow(&self.prices, self.step, crosses, &mut self.spans);
+    }
+
+    // Halves the step.
+    fn halve(&mut self)
+        requires { pos 1 <ℤ self.old.step }
+        ensures network { self.new.network.now ≡ self.old.network.now }
+        ensures prices { self.new.prices ≡ self.old.prices }
+        ensures less { self.new.step <ℤ self.old.step }
+        ensures narrow { IsNarrow C.Cost.meaning self.new }
+    {
+        self.step /= 2;
+        self.network
+            .narrow(&self.prices, self.step, |_| true, &mut self.spans);
+    }
+}
+
+impl<C: Cost> Network<'_, C> {
+    ghost use Rattle.search.specs.Networks.{network_of};
+
+    // Changes the loads into those of a cheapest routing, and answers prices at which each load is slack. The prices of a set of nodes
+    // that bars every routing with loads slack near the tensions are raised, by steps that get smaller.
+    pub(crate) fn improve(&self, loads: &mut [i64]) -> [i64; MOST_NODES]
+        requires loaded { length self.now.graph.arcs.now ≤ length loads.old }
+        requires meets { Meets (network_of C.Cost.meaning self.now) (numbers loads.old) }
+        ensures meets { Meets (network_of C.Cost.meaning self.now) (numbers loads.new) }
+        ensures slack { AllSlack (network_of C.Cost.meaning self.now) (numbers result) (numbers loads.new) }
+        ensures modest { Modest (length self.now.graph.nodes.now) result }
+    {
+        let mut search = Search::begin(self);
+        loop {
+            match search.attempt(loads) {
+                Err(set) => search.raise(&set),
+                Ok(()) if search.step == 1 => return search.prices,
+                Ok(()) => search.halve(),
+            }
         }
     }
 }

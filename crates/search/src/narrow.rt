@@ -1,15 +1,19 @@
 // The loads of each arc that are slack near its tension.
-ghost use Rattle.std.specs.Prelude.{◌≡◌, ℕ, ◌<◌, ◌≤◌, true, false, map, length, pos, negsuc, ◌+ℤ◌, ◌-ℤ◌, neg_ℤ, ◌≤ℤ◌, ◌<ℤ◌, ◌≢◌};
+ghost use Rattle.std.specs.Prelude.{◌≡◌, ℕ, ◌<◌, ◌≤◌, true, false, map, length, pos, negsuc, ◌+ℤ◌, ◌-ℤ◌, ◌≤ℤ◌, ◌<ℤ◌};
+ghost use Rattle.std.specs.Fn.{FnReturnsAt};
 ghost use Rattle.cost.specs.Meaning.{Between, last};
-ghost use Rattle.network.specs.Records.{net_of, numbers, cost_of, Sound};
-ghost use Rattle.search.specs.Turns.{Turns, PassingBetween, Narrow, Narrowed, NarrowedBeside};
-ghost use Rattle.flow.specs.Within.{Held};
-ghost use Rattle.flow.specs.Labels.{reached_in};
+ghost use Rattle.network.specs.Records.{numbers, cost_of};
+ghost use Rattle.flow.specs.Spans.{low_of, high_of};
+ghost use Rattle.search.specs.Spans.{HeldIn};
+ghost use Rattle.search.specs.Turns.{Turns, PassingBetween, Narrow, NarrowedWhere, Narrowed};
+ghost use Rattle.search.specs.Prices.{Modest};
+ghost use Rattle.search.specs.Settled.{arc_at};
 
+use crate::networks::Network;
 use cost::costs::Cost;
 use cost::numbers::LOADS;
-use flow::reach::Label;
-use network::records::{Arc, Node};
+use flow::spans::Span;
+use network::records::Arc;
 
 // A number half way between two.
 fn between(low: i64, high: i64) -> i64
@@ -81,146 +85,66 @@ fn tension_of(arc: &Arc, prices: &[i64]) -> i64
     prices[arc.tail] - prices[arc.head]
 }
 
-// Writes down the low and the high of an arc: its loads that are slack within a step of its tension. What stands there is tried first.
-fn narrow_at<C: Cost>(
-    arc: &Arc,
-    cost: &C,
-    prices: &[i64],
-    step: i64,
-    place: usize,
-    lows: &mut [i64],
-    highs: &mut [i64],
-)
-    requires tail { arc.now.tail < length prices.now }
-    requires head { arc.now.head < length prices.now }
-    requires limits { Between (pos 0) (pos 1000000000000000) (numbers prices.now arc.now.tail) × Between (pos 0) (pos 1000000000000000) (numbers prices.now arc.now.head) }
+// The loads of an arc that are slack within a step of its tension. A span at hand is tried first.
+fn narrowed<C: Cost>(cost: &C, tension: i64, step: i64, at_hand: Span) -> Span
+    requires tension { Between (negsuc 999999999999999) (pos 1000000000000000) tension }
     requires step { Between (pos 1) (pos 1048576) step }
-    requires lows_long { place < length lows.old }
-    requires highs_long { place < length highs.old }
-    ensures narrow { Narrow (C.Cost.meaning cost.now) (numbers prices.now arc.now.tail -ℤ numbers prices.now arc.now.head) step (numbers lows.new place) (numbers highs.new place) }
-    ensures lows { (k : ℕ) → (k ≢ place) → numbers lows.new k ≡ numbers lows.old k }
-    ensures highs { (k : ℕ) → (k ≢ place) → numbers highs.new k ≡ numbers highs.old k }
+    ensures { Narrow (C.Cost.meaning cost.now) tension step result.low result.high }
 {
-    let tension = tension_of(arc, prices);
-    lows[place] = turn_from(cost, tension - step + 1, lows[place]);
-    highs[place] = turn_from(cost, tension + step, highs[place]);
-}
-
-// The low and the high of each arc: its loads that are slack within a step of its tension.
-pub(crate) fn narrow<C: Cost>(
-    nodes: &[Node],
-    arcs: &[Arc],
-    costs: &[C],
-    prices: &[i64],
-    step: i64,
-    lows: &mut [i64],
-    highs: &mut [i64],
-)
-    requires sound { Sound nodes.now arcs.now }
-    requires costed { length costs.now ≡ length arcs.now }
-    requires priced { length nodes.now ≤ length prices.now }
-    requires limits { (v : ℕ) → v < length nodes.now → Between (pos 0) (pos 1000000000000000) (numbers prices.now v) }
-    requires step { Between (pos 1) (pos 1048576) step }
-    requires lows_long { length arcs.now ≤ length lows.old }
-    requires highs_long { length arcs.now ≤ length highs.old }
-    ensures { Narrowed (net_of nodes.now arcs.now (map C.Cost.meaning costs.now)) (numbers prices.now) step (numbers lows.new) (numbers highs.new) }
-{
-    for (a, cost) in costs.iter().enumerate() {
-        narrow_at(&arcs[a], cost, prices, step, a, lows, highs);
+    Span {
+        low: turn_from(cost, tension - step + 1, at_hand.low),
+        high: turn_from(cost, tension + step, at_hand.high),
     }
 }
 
-// Whether one end of an arc is among the nodes that are labelled as reached, and the other is not.
-fn crosses(arc: &Arc, labels: &[Label]) -> bool
-    requires tail { arc.now.tail < length labels.now }
-    requires head { arc.now.head < length labels.now }
-    ensures { result ≡ false → reached_in labels.now arc.now.tail ≡ reached_in labels.now arc.now.head }
-{
-    labels[arc.tail].reached != labels[arc.head].reached
-}
+impl<C: Cost> Network<'_, C> {
+    ghost use Rattle.search.specs.Networks.{network_of};
 
-// The same, where the lows and highs of the arcs with both ends among the nodes that are labelled as reached, or with none, are there
-// already.
-fn narrow_across<C: Cost>(
-    nodes: &[Node],
-    arcs: &[Arc],
-    costs: &[C],
-    prices: &[i64],
-    step: i64,
-    labels: &[Label],
-    lows: &mut [i64],
-    highs: &mut [i64],
-)
-    requires sound { Sound nodes.now arcs.now }
-    requires costed { length costs.now ≡ length arcs.now }
-    requires priced { length nodes.now ≤ length prices.now }
-    requires limits { (v : ℕ) → v < length nodes.now → Between (pos 0) (pos 1000000000000000) (numbers prices.now v) }
-    requires step { Between (pos 1) (pos 1048576) step }
-    requires long { length nodes.now ≤ length labels.now }
-    requires lows_long { length arcs.now ≤ length lows.old }
-    requires highs_long { length arcs.now ≤ length highs.old }
-    requires kept { NarrowedBeside (net_of nodes.now arcs.now (map C.Cost.meaning costs.now)) (numbers prices.now) step (reached_in labels.now) (numbers lows.old) (numbers highs.old) }
-    ensures { Narrowed (net_of nodes.now arcs.now (map C.Cost.meaning costs.now)) (numbers prices.now) step (numbers lows.new) (numbers highs.new) }
-{
-    for (a, cost) in costs.iter().enumerate() {
-        if crosses(&arcs[a], labels) {
-            narrow_at(&arcs[a], cost, prices, step, a, lows, highs);
+    // Narrows the spans of the arcs that are due. Those of the other arcs are narrow already.
+    pub(crate) fn narrow<F: Fn(&Arc) -> bool>(
+        &self,
+        prices: &[i64],
+        step: i64,
+        due: F,
+        spans: &mut [Span],
+    )
+        requires priced { length self.now.graph.nodes.now ≤ length prices.now }
+        requires modest { Modest (length self.now.graph.nodes.now) prices.now }
+        requires step { Between (pos 1) (pos 1048576) step }
+        requires callable { F.IsAlwaysCallable due }
+        requires long { length self.now.graph.arcs.now ≤ length spans.old }
+        requires others { NarrowedWhere (λ a. FnReturnsAt F.Fn due (arc_at self.now.graph.arcs.now a) false) (network_of C.Cost.meaning self.now) (numbers prices.now) step (low_of spans.old) (high_of spans.old) }
+        ensures { Narrowed (network_of C.Cost.meaning self.now) (numbers prices.now) step (low_of spans.new) (high_of spans.new) }
+    {
+        for (a, (arc, cost)) in self.graph.arcs.iter().zip(self.costs).enumerate() {
+            if due(arc) {
+                spans[a] = narrowed(cost, tension_of(arc, prices), step, spans[a]);
+            }
+        }
+    }
+
+    // The span of each arc is the range of its cost.
+    pub(crate) fn widen(&self, spans: &mut [Span])
+        requires { length self.now.graph.arcs.now ≤ length spans.old }
+        ensures lows { (a : ℕ) → a < length self.now.graph.arcs.now → low_of spans.new a ≡ pos (cost_of (map C.Cost.meaning self.now.costs.now) a).first }
+        ensures highs { (a : ℕ) → a < length self.now.graph.arcs.now → high_of spans.new a ≡ pos (last (cost_of (map C.Cost.meaning self.now.costs.now) a)) }
+    {
+        for (a, cost) in self.costs.iter().enumerate() {
+            spans[a] = Span {
+                low: cost.first_load(),
+                high: cost.last_load(),
+            };
         }
     }
 }
 
-// The low and the high of each arc, anew or from those that are there already.
-pub(crate) fn narrow_due<C: Cost>(
-    nodes: &[Node],
-    arcs: &[Arc],
-    costs: &[C],
-    prices: &[i64],
-    step: i64,
-    anew: bool,
-    labels: &[Label],
-    lows: &mut [i64],
-    highs: &mut [i64],
-)
-    requires sound { Sound nodes.now arcs.now }
-    requires costed { length costs.now ≡ length arcs.now }
-    requires priced { length nodes.now ≤ length prices.now }
-    requires limits { (v : ℕ) → v < length nodes.now → Between (pos 0) (pos 1000000000000000) (numbers prices.now v) }
-    requires step { Between (pos 1) (pos 1048576) step }
-    requires long { length nodes.now ≤ length labels.now }
-    requires lows_long { length arcs.now ≤ length lows.old }
-    requires highs_long { length arcs.now ≤ length highs.old }
-    requires kept { anew ≡ false → NarrowedBeside (net_of nodes.now arcs.now (map C.Cost.meaning costs.now)) (numbers prices.now) step (reached_in labels.now) (numbers lows.old) (numbers highs.old) }
-    ensures { Narrowed (net_of nodes.now arcs.now (map C.Cost.meaning costs.now)) (numbers prices.now) step (numbers lows.new) (numbers highs.new) }
+// Brings each load that lies outside its span to the nearer end.
+pub(crate) fn hold(spans: &[Span], loads: &mut [i64])
+    requires { length spans.now ≤ length loads.old }
+    ensures { HeldIn spans.now loads.new }
 {
-    if anew {
-        narrow(nodes, arcs, costs, prices, step, lows, highs);
-    } else {
-        narrow_across(nodes, arcs, costs, prices, step, labels, lows, highs);
-    }
-}
-
-// The low and the high of each arc: the first and the last load of its cost.
-pub(crate) fn widen<C: Cost>(costs: &[C], lows: &mut [i64], highs: &mut [i64])
-    requires lows_long { length costs.now ≤ length lows.old }
-    requires highs_long { length costs.now ≤ length highs.old }
-    ensures lows { (a : ℕ) → a < length costs.now → numbers lows.new a ≡ pos (cost_of (map C.Cost.meaning costs.now) a).first }
-    ensures highs { (a : ℕ) → a < length costs.now → numbers highs.new a ≡ pos (last (cost_of (map C.Cost.meaning costs.now) a)) }
-{
-    for (a, cost) in costs.iter().enumerate() {
-        lows[a] = cost.first_load();
-        highs[a] = cost.last_load();
-    }
-}
-
-// Brings each load that lies outside its low and high to the nearer of the two.
-pub(crate) fn hold(arcs: &[Arc], lows: &[i64], highs: &[i64], loads: &mut [i64])
-    requires lows_long { length arcs.now ≤ length lows.now }
-    requires highs_long { length arcs.now ≤ length highs.now }
-    requires loads_long { length arcs.now ≤ length loads.old }
-    requires order { (a : ℕ) → a < length arcs.now → numbers lows.now a ≤ℤ numbers highs.now a }
-    ensures { Held (length arcs.now) (numbers lows.now) (numbers highs.now) (numbers loads.new) }
-{
-    for a in 0..arcs.len() {
-        loads[a] = loads[a].max(lows[a]).min(highs[a]);
+    // Of loads that are written through a zip of `iter_mut`, a proof knows nothing afterwards.
+    for (a, span) in spans.iter().enumerate() {
+        loads[a] = loads[a].max(span.low).min(span.high);
     }
 }

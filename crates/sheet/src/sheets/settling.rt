@@ -34,7 +34,7 @@ impl Sheet {
     {
         let nodes = &mut self.table.nodes[0..self.node_count];
         let arcs = &mut self.table.arcs[0..self.arc_count];
-        settle(nodes, arcs, costs)
+        settle(nodes, arcs, costs).is_ok()
     }
 
     // Settles the book: it then holds a cheapest routing with prices that show it, or the marks of a set that bars every routing.

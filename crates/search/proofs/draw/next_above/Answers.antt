@@ -1,23 +1,13 @@
--- Each turn compares one price more.
-use Rattle.std.proofs.Common.{inl, inr, arith, below_more}
-use Rattle.std.proofs.lemmas.Int.{ints}
+-- The least of the prices that pass the filter.
+use Rattle.std.proofs.Common.{int_lt, rules, tests}
+use Rattle.std.proofs.lemmas.Iterator.{YieldsList-from_slice}
+use Rattle.std.proofs.lemmas.Iterator.Consumers.{YieldsList-at, YieldsList-from_copied, YieldsList-from_filter, reduce_from_yields_List}
+use Rattle.search.proofs.Lowest.{lesser, lowest_above}
 use Rattle.search.proofs.draw.next_above.Goals as goal
 
-pub loop-v-preserved : goal.loop-v-preserved
-loop-v-preserved c =
-    let inv = c.loop-v.invariant in
-    let now = c.nearer-next.ensures in
-    elim now.either [
-      | inl new ↦ (
-        omega (arith, ints, new.0, new.1),
-        omega (arith, ints, inv.1, now.under),
-        below_more _ _ (λ k h over. omega (arith, ints, inv.2 k h over, now.under)) (λ over. omega (arith, ints, now.least (omega (arith, ints)))),
-        λ small. (c.loop-v.v, c.loop-v-test.true, omega (arith, ints, new.0)),
-      )
-      | inr old ↦ (
-        omega (arith, ints, inv.0, old),
-        omega (arith, ints, inv.1, now.under),
-        below_more _ _ (λ k h over. omega (arith, ints, inv.2 k h over, now.under)) (λ over. omega (arith, ints, now.least (omega (arith, ints)))),
-        λ small. let found = inv.3 (omega (arith, ints, old)) in (found.0, found.1, omega (arith, ints, found.2, old)),
-      )
-    ]
+pub returns : goal.returns
+returns c =
+    let least = reduce_from_yields_List lesser c.filter.result c.min.result c.min.ensures.ran
+    (YieldsList-from_filter _ (int_lt c.args.bar) (YieldsList-at c.filter.ensures.source (YieldsList-from_copied (YieldsList-at c.copied.ensures.source (YieldsList-from_slice c.args.prices.now (cc)))))
+    c.filter.ensures.closure (λ x b q k. search (rules, tests))) in
+    rw least (lowest_above c.args.bar c.args.prices.now)
