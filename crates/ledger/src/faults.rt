@@ -8,7 +8,7 @@ use cost::numbers::NumberFault;
 use cost::refusals::{Layer, Refusal};
 
 // Why a step of the draft is refused.
-#[derive(Clone, Copy, Debug)]
+#[derive(Clone, Copy, Debug, PartialEq, Eq)]
 pub enum DraftFault {
     Number(NumberFault),
     // after the last node, or after arc 256: how many there are
@@ -20,7 +20,7 @@ pub enum DraftFault {
 }
 
 // Why a call on a sheet is refused.
-#[derive(Clone, Copy, Debug)]
+#[derive(Clone, Copy, Debug, PartialEq, Eq)]
 pub enum SheetFault {
     // another number of costs, loads or prices than the sheet has arcs or nodes
     List,
@@ -55,11 +55,11 @@ impl From<NumberFault> for SheetFault {
     }
 }
 
-impl DraftFault {
-    pub fn refusal(self) -> Refusal
-        ensures { result ≡ draft_refusal self }
-    {
-        let (number, place) = match self {
+impl From<DraftFault> for Refusal {
+    ghost from_gives = { λ fault r. r ≡ draft_refusal fault };
+
+    fn from(fault: DraftFault) -> Refusal {
+        let (number, place) = match fault {
             DraftFault::Number(NumberFault::Outside(position)) => (3, position),
             DraftFault::Full(count) => (7, count),
             DraftFault::Unknown(position) => (8, position),
@@ -73,11 +73,11 @@ impl DraftFault {
     }
 }
 
-impl SheetFault {
-    pub fn refusal(self) -> Refusal
-        ensures { result ≡ sheet_refusal self }
-    {
-        let (number, place) = match self {
+impl From<SheetFault> for Refusal {
+    ghost from_gives = { λ fault r. r ≡ sheet_refusal fault };
+
+    fn from(fault: SheetFault) -> Refusal {
+        let (number, place) = match fault {
             SheetFault::List => (2, 0),
             SheetFault::Number(NumberFault::Outside(position)) => (3, position),
             SheetFault::Unknown(position) => (8, position),
@@ -92,5 +92,23 @@ impl SheetFault {
             place,
             layer: Layer::Sheet,
         }
+    }
+}
+
+impl DraftFault {
+    // The refusal that is reported for a fault of a draft.
+    pub fn refusal(self) -> Refusal
+        ensures { result ≡ draft_refusal self }
+    {
+        Refusal::from(self)
+    }
+}
+
+impl SheetFault {
+    // The refusal that is reported for a fault of a sheet.
+    pub fn refusal(self) -> Refusal
+        ensures { result ≡ sheet_refusal self }
+    {
+        Refusal::from(self)
     }
 }

@@ -15,7 +15,7 @@ pub enum Standing {
 
 // What a call does to a sheet: it edits; it settles, with a routing or with the set that bars one; it reads loads and prices, or
 // marks.
-#[derive(Clone, Copy)]
+#[derive(Clone, Copy, Debug, PartialEq, Eq)]
 pub enum Event {
     Edit,
     Settle,
