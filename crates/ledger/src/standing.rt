@@ -25,28 +25,31 @@ pub enum Event {
 }
 
 impl Standing {
+    // Refuses an event that the standing does not allow: a routing is read only while settled, and marks only while barred.
+    pub fn check(self, event: Event) -> Result<(), SheetFault>
+        ensures { result_err result ≡ unread event self }
+    {
+        match (event, self) {
+            (Event::Edit | Event::Settle | Event::Bar, _) => Ok(()),
+            (Event::ReadRouting, Standing::Settled) | (Event::ReadMarks, Standing::Barred) => Ok(
+                (),
+            ),
+            (Event::ReadRouting | Event::ReadMarks, _) => Err(SheetFault::Unread),
+        }
+    }
+
     // Moves the standing by an event, or refuses the event and leaves the standing.
     pub fn meet(&mut self, event: Event) -> Result<(), SheetFault>
         ensures answer { result_err result ≡ unread event self.old }
         ensures after { self.new ≡ moved event self.old }
     {
-        match (*self, event) {
-            (_, Event::Edit) => {
-                *self = Standing::Open;
-                Ok(())
-            }
-            (_, Event::Settle) => {
-                *self = Standing::Settled;
-                Ok(())
-            }
-            (_, Event::Bar) => {
-                *self = Standing::Barred;
-                Ok(())
-            }
-            (Standing::Settled, Event::ReadRouting) | (Standing::Barred, Event::ReadMarks) => Ok(
-                (),
-            ),
-            (_, Event::ReadRouting) | (_, Event::ReadMarks) => Err(SheetFault::Unread),
-        }
+        self.check(event)?;
+        *self = match event {
+            Event::Edit => Standing::Open,
+            Event::Settle => Standing::Settled,
+            Event::Bar => Standing::Barred,
+            Event::ReadRouting | Event::ReadMarks => *self,
+        };
+        Ok(())
     }
 }
