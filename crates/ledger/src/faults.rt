@@ -1,11 +1,14 @@
 // What the calls of the draft and of the sheet refuse.
-ghost use Rattle.std.specs.Prelude.{◌≡◌};
+ghost use Rattle.std.specs.Prelude.{◌≡◌, ◌++◌, Some, codes};
+ghost use Rattle.cost.specs.Refusals.{refusal_text};
 ghost use Rattle.ledger.specs.Faults.{draft_refusal, sheet_refusal};
 ghost use Rattle.ledger.specs.declared.faults.DraftFault.TheVariants as draft;
 ghost use Rattle.ledger.specs.declared.faults.SheetFault.TheVariants as sheet;
 
 use cost::numbers::NumberFault;
 use cost::refusals::{Layer, Refusal};
+use std::error::Error;
+use std::fmt;
 
 // Why a step of the draft is refused.
 #[derive(Clone, Copy, Debug, PartialEq, Eq)]
@@ -58,6 +61,7 @@ impl From<NumberFault> for SheetFault {
 impl From<DraftFault> for Refusal {
     ghost from_gives = { λ fault r. r ≡ draft_refusal fault };
 
+    // Reports a fault of a draft by its number, its place and the layer of drafts.
     fn from(fault: DraftFault) -> Refusal {
         let (number, place) = match fault {
             DraftFault::Number(NumberFault::Outside(position)) => (3, position),
@@ -76,6 +80,7 @@ impl From<DraftFault> for Refusal {
 impl From<SheetFault> for Refusal {
     ghost from_gives = { λ fault r. r ≡ sheet_refusal fault };
 
+    // Reports a fault of a call on a sheet by its number, its place and the layer of sheets.
     fn from(fault: SheetFault) -> Refusal {
         let (number, place) = match fault {
             SheetFault::List => (2, 0),
@@ -94,6 +99,28 @@ impl From<SheetFault> for Refusal {
         }
     }
 }
+
+impl fmt::Display for DraftFault {
+    ghost output = { λ fault. Some (codes "a draft is refused: " ++ refusal_text (draft_refusal fault)) };
+
+    // Writes the refusal, for a program that passes the fault on.
+    fn fmt<W: fmt::Write>(&self, f: &mut fmt::Formatter<W>) -> fmt::Result {
+        write!(f, "a draft is refused: {}", Refusal::from(*self))
+    }
+}
+
+impl Error for DraftFault {}
+
+impl fmt::Display for SheetFault {
+    ghost output = { λ fault. Some (codes "a call on a sheet is refused: " ++ refusal_text (sheet_refusal fault)) };
+
+    // Writes the refusal, for a program that passes the fault on.
+    fn fmt<W: fmt::Write>(&self, f: &mut fmt::Formatter<W>) -> fmt::Result {
+        write!(f, "a call on a sheet is refused: {}", Refusal::from(*self))
+    }
+}
+
+impl Error for SheetFault {}
 
 impl DraftFault {
     // The refusal that is reported for a fault of a draft.
