@@ -3,7 +3,8 @@ ghost use Rattle.std.specs.Prelude.{◌≡◌, ◌&&◌, map, Ok, ◌==◌};
 ghost use Rattle.std.specs.Result.{result_err};
 ghost use Rattle.cost.specs.Places.{unless};
 ghost use Rattle.network.specs.Network.{charge, floor};
-ghost use Rattle.network.specs.Records.{net_of, numbers, Sound};
+ghost use Rattle.network.specs.Graphs.{net_in};
+ghost use Rattle.network.specs.Records.{numbers};
 ghost use Rattle.ledger.specs.Calls.{charge_refusal, floor_refusal, needed};
 ghost use Rattle.ledger.specs.declared.faults.SheetFault.TheVariants.{List};
 
@@ -12,7 +13,7 @@ use cost::costs::Cost;
 use cost::numbers::{Limits, NumberFault};
 use network::charge::charge_of;
 use network::floor::floor_of;
-use network::records::{Arc, Node};
+use network::graph::Graph;
 use network::routing::{first_out_of_range, first_unmet};
 
 pub const PRICES: Limits = Limits {
@@ -37,38 +38,29 @@ pub fn check_lists(
 }
 
 // The charge of a routing that meets the network of these nodes and arcs.
-pub fn charged<C: Cost>(
-    nodes: &[Node],
-    arcs: &[Arc],
-    costs: &[C],
-    loads: &[i64],
-) -> Result<i64, SheetFault>
-    requires { Sound nodes.now arcs.now }
-    ensures { result ≡ unless (charge_refusal nodes.now arcs.now (map C.Cost.meaning costs.now) loads.now) (charge (net_of nodes.now arcs.now (map C.Cost.meaning costs.now)) (numbers loads.now)) }
+pub fn charged<C: Cost>(graph: &Graph<'_>, costs: &[C], loads: &[i64]) -> Result<i64, SheetFault>
+    ensures { result ≡ unless (charge_refusal graph.now.nodes.now graph.now.arcs.now (map C.Cost.meaning costs.now) loads.now) (charge (net_in graph.now (map C.Cost.meaning costs.now)) (numbers loads.now)) }
 {
-    check_lists(costs.len(), arcs.len(), loads.len(), arcs.len())?;
+    let arcs = graph.arcs.len();
+    check_lists(costs.len(), arcs, loads.len(), arcs)?;
     if let Some(arc) = first_out_of_range(costs, loads) {
         return Err(SheetFault::Range(arc));
     }
-    if let Some(node) = first_unmet(nodes, arcs, loads) {
+    if let Some(node) = first_unmet(graph.nodes, graph.arcs, loads) {
         return Err(SheetFault::Surplus(node));
     }
     Ok(charge_of(costs, loads))
 }
 
 // The floor of prices under the network of these nodes and arcs.
-pub fn floored<C: Cost>(
-    nodes: &[Node],
-    arcs: &[Arc],
-    costs: &[C],
-    prices: &[i64],
-) -> Result<i64, SheetFault>
-    requires { Sound nodes.now arcs.now }
-    ensures { result ≡ unless (floor_refusal nodes.now arcs.now (map C.Cost.meaning costs.now) prices.now) (floor (net_of nodes.now arcs.now (map C.Cost.meaning costs.now)) (numbers prices.now)) }
+pub fn floored<C: Cost>(graph: &Graph<'_>, costs: &[C], prices: &[i64]) -> Result<i64, SheetFault>
+    ensures { result ≡ unless (floor_refusal graph.now.nodes.now graph.now.arcs.now (map C.Cost.meaning costs.now) prices.now) (floor (net_in graph.now (map C.Cost.meaning costs.now)) (numbers prices.now)) }
 {
-    check_lists(costs.len(), arcs.len(), prices.len(), nodes.len())?;
+    let nodes = graph.nodes.len();
+    let arcs = graph.arcs.len();
+    check_lists(costs.len(), arcs, prices.len(), nodes)?;
     if let Some(node) = PRICES.first_outside(prices) {
         return Err(SheetFault::Number(NumberFault::Outside(node)));
     }
-    Ok(floor_of(nodes, arcs, costs, prices))
+    Ok(floor_of(graph.nodes, graph.arcs, costs, prices))
 }

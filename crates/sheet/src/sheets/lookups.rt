@@ -62,13 +62,13 @@ impl Sheet {
     pub fn node_count(&self) -> usize
         ensures { result ≡ length (book_of self.now).nodes }
     {
-        self.nodes().len()
+        self.graph().nodes.len()
     }
 
     pub fn arc_count(&self) -> usize
         ensures { result ≡ length (book_of self.now).arcs }
     {
-        self.arcs().len()
+        self.graph().arcs.len()
     }
 
     pub fn stands(&self) -> Standing

@@ -13,35 +13,32 @@ use cost::costs::Cost;
 use ledger::faults::SheetFault;
 pub use ledger::pricing::PRICES;
 use ledger::pricing::{charged, floored};
-use network::records::{Arc, Node};
+use network::graph::Graph;
 
 impl Sheet {
-    // The records of the sheet's nodes.
-    pub(crate) fn nodes(&self) -> &[Node]
-        ensures { result.now ≡ (book_of self.now).nodes }
+    // The nodes and arcs of the sheet, as a network.
+    pub(crate) fn graph(&self) -> Graph<'_>
+        ensures nodes { result.nodes.now ≡ (book_of self.now).nodes }
+        ensures arcs { result.arcs.now ≡ (book_of self.now).arcs }
     {
-        &self.table.nodes[0..self.node_count]
-    }
-
-    // The records of the sheet's arcs.
-    pub(crate) fn arcs(&self) -> &[Arc]
-        ensures { result.now ≡ (book_of self.now).arcs }
-    {
-        &self.table.arcs[0..self.arc_count]
+        Graph::of(
+            &self.table.nodes[0..self.node_count],
+            &self.table.arcs[0..self.arc_count],
+        )
     }
 
     // The charge of a routing that meets the network.
     pub fn charge<C: Cost>(&self, costs: &[C], loads: &[i64]) -> Result<i64, SheetFault>
         ensures { result ≡ charge_answer (book_of self.now) (map C.Cost.meaning costs.now) loads.now }
     {
-        charged(self.nodes(), self.arcs(), costs, loads)
+        charged(&self.graph(), costs, loads)
     }
 
     // The floor of prices: no routing that meets the network is charged less.
     pub fn floor<C: Cost>(&self, costs: &[C], prices: &[i64]) -> Result<i64, SheetFault>
         ensures { result ≡ floor_answer (book_of self.now) (map C.Cost.meaning costs.now) prices.now }
     {
-        floored(self.nodes(), self.arcs(), costs, prices)
+        floored(&self.graph(), costs, prices)
     }
 
     // The floor of prices and the charge of a routing that meets the network; the floor is at most the charge.

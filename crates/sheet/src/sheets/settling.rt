@@ -44,14 +44,15 @@ impl Sheet {
         ensures exactly { length costs.now ≡ length (book_of self.old).arcs → EqualWhenBest (network_of (book_of self.old) (map C.Cost.meaning costs.now)) }
         ensures refuses { settle_refusal (book_of self.old).nodes (book_of self.old).arcs (length costs.now) ≡ None → (is_ok result ≡ false) ↔ (Feasible (network_of (book_of self.old) (map C.Cost.meaning costs.now)) → ⊥) }
     {
-        check_settling(self.nodes(), self.arcs(), costs.len())?;
+        check_settling(&self.graph(), costs.len())?;
         if !self.search(costs) {
             self.stand(Event::Bar);
-            return Err(SheetFault::Barred(count_marked(self.nodes())));
+            return Err(SheetFault::Barred(count_marked(self.graph().nodes)));
         }
         self.stand(Event::Settle);
-        let charge = charge_carried(self.arcs(), costs);
-        let floor = floor_held(self.nodes(), self.arcs(), costs);
+        let graph = self.graph();
+        let charge = charge_carried(&graph, costs);
+        let floor = floor_held(&graph, costs);
         Ok(Amounts { charge, floor })
     }
 }

@@ -1,28 +1,18 @@
--- The loads that are written down are those that the arcs carry.
-use Rattle.std.proofs.Common.{◌-◌, [], map, length, take, sym, ◌∙◌, arith, rules}
-use Rattle.network.specs.Records.{net_of, numbers}
+-- The loads that are listed are those that the arcs carry.
+use Rattle.std.proofs.Common.{◌≡◌, ℕ, ◌<◌, map, length, ◌∙◌, rules}
+use Rattle.network.specs.Graphs.{net_in}
+use Rattle.network.specs.Records.{numbers}
 use Rattle.network.proofs.Nets.{charge_is}
 use Rattle.network.proofs.Changes.{charge_same}
 use Rattle.search.specs.Settled.{loads_of}
-use Rattle.ledger.proofs.Parts.{written_front}
 use Rattle.ledger.proofs.settling.charge_carried.Goals as goal
-
-pub charge_of-requires : goal.charge_of-requires
-charge_of-requires g c =
-    let arcs = c.args.arcs.now in
-    let front = written_front (length arcs) c.list_loads.new.loads (loads_of arcs) (omega (arith, c.list_loads.auto.loads, c.requires.limit)) c.list_loads.ensures in
-    record {
-      loaded = front.0 ∙ sym c.requires.costed;
-      limit = omega (arith, front.0, c.requires.limit);
-      ranges = λ a h. rw (front.1 a (omega (arith, front.0))) (c.requires.ranges a (omega (arith, front.0)));
-    }
 
 pub returns : goal.returns
 returns g c =
-    let arcs = c.args.arcs.now in
+    let graph = c.args.graph.now in
     let costs = map g.C.Cost.meaning c.args.costs.now in
-    let net = net_of [] arcs costs in
-    let loads = take (length arcs - 0) c.list_loads.new.loads in
-    let front = written_front (length arcs) c.list_loads.new.loads (loads_of arcs) (omega (arith, c.list_loads.auto.loads, c.requires.limit)) c.list_loads.ensures in
-    let sum = charge_is [] arcs costs loads front.0 ∙ charge_same net (numbers loads) (loads_of arcs) front.1 in
+    let loads = c.as_slice.result.now in
+    let listed : length loads ≡ length graph.arcs.now = search rules in
+    let each : (k : ℕ) → k < length graph.arcs.now → numbers loads k ≡ loads_of graph.arcs.now k = search rules in
+    let sum = charge_is graph.nodes.now graph.arcs.now costs loads listed ∙ charge_same (net_in graph costs) (numbers loads) (loads_of graph.arcs.now) each in
     search rules

@@ -4,4 +4,4 @@ use Rattle.network.specs.Records.{no_node}
 use Rattle.ledger.proofs.settling.sum_of_supplies.Given as goal
 
 abbrev pub invariant-loop-node : goal.invariant-loop-node
-invariant-loop-node l = l.sum ≡ sum l.node-index (λ v. (get_or l.nodes v no_node).supply)
+invariant-loop-node l = l.sum ≡ sum l.node-index (λ v. (get_or l.graph.nodes.now v no_node).supply)

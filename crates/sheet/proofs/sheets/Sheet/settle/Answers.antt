@@ -1,10 +1,10 @@
 -- Each way in which settling ends, and what it says of the network.
-use Rattle.std.proofs.Common.{◌≡◌, false, ◌↔◌, List, [], map, length, is_ok, Some, None, Ok, Err, Result, sym, ap, ◌∙◌, subst, arith, w64, SFits, rules}
+use Rattle.std.proofs.Common.{◌≡◌, false, ◌↔◌, List, map, length, is_ok, Some, None, Ok, Err, Result, sym, ap, ◌∙◌, subst, arith, w64, SFits, rules}
 use Rattle.std.proofs.lemmas.List.{length-map}
 use Rattle.std.proofs.lemmas.Int.{to_z-of_z}
 use Rattle.cost.specs.Meaning.{Meaning}
 use Rattle.network.specs.Network.{Net, charge, floor}
-use Rattle.network.specs.Records.{net_of}
+use Rattle.network.specs.Graphs.{net_in}
 use Rattle.network.specs.declared.records.Node.{Node}
 use Rattle.network.specs.declared.records.Arc.{Arc}
 use Rattle.search.specs.Settled.{loads_of, prices_of}
@@ -21,9 +21,6 @@ use Rattle.sheet.proofs.Tables.{sheet_sound}
 use Rattle.ledger.proofs.Bare.{same_bare}
 use Rattle.ledger.proofs.Outcomes.{ready_to_settle, same_network, answers_of, answers_exactly, answers_or_none, ends_refused, ends_settled, ends_barred}
 use Rattle.sheet.proofs.sheets.Sheet.settle.Goals as goal
-
-pub check_settling-requires : goal.check_settling-requires
-check_settling-requires g c = let sound = sheet_sound c.args.self.now in search rules
 
 -- what the ways to the end share
 module _ (s : Sheet) {C : Type 0} (meaning : C → Meaning) (costs : List C) (after : Book) (r : Result Amounts SheetFault) (outcome : Settles (book_of s) (map meaning costs) after r) where
@@ -64,13 +61,11 @@ returns-then-not-search g c =
 pub floor_held-floor-requires : goal.floor_held-floor-requires
 floor_held-floor-requires g c =
     let s = c.args.self.now in
-    let after = c.search.new.self in
     let found = c.search.ensures.found (search rules) in
     let told : settle_refusal (book_of s).nodes (book_of s).arcs (length c.args.costs.now) ≡ None = search rules in
-    let nodes = c.nodes-2.ensures ∙ c.stand-2.ensures.nodes in
-    let arcs = c.arcs-3.ensures ∙ c.stand-2.ensures.arcs in
+    let nodes = c.graph-graph.ensures.nodes ∙ c.stand-2.ensures.nodes in
+    let arcs = c.graph-graph.ensures.arcs ∙ c.stand-2.ensures.arcs in
     record {
-      sound = rw (nodes, arcs) (sheet_sound after);
       costed = (ready_to_settle (book_of s).nodes (book_of s).arcs (length c.args.costs.now) told).0 ∙ sym c.search.ensures.arcs.many ∙ sym (ap length arcs);
       limits = λ v h. rw nodes (found.price_limit v (omega (arith, ap length nodes, c.search.ensures.nodes.many)));
     }
@@ -78,23 +73,23 @@ floor_held-floor-requires g c =
 pub returns : goal.returns
 returns g c =
     let s = c.args.self.now in
-    let costs = c.args.costs.now in
-    let long = length-map costs g.C.Cost.meaning in
-    let told : settle_refusal (book_of s).nodes (book_of s).arcs (length costs) ≡ None = search rules in
-    let after = c.search.new.self in
-    let book : book_of c.stand-2.new.self ≡ record { nodes = (book_of after).nodes; arcs = (book_of after).arcs; standing = standing.Settled } = search rules in
-    let same = same_bare (book_of s).nodes (book_of after).nodes (book_of s).arcs (book_of after).arcs (map g.C.Cost.meaning costs) (same_network (book_of s) (book_of after).nodes (book_of after).arcs c.search.ensures.nodes c.search.ensures.arcs) in
-    let nodes = c.nodes-2.ensures ∙ c.stand-2.ensures.nodes in
-    let arcs = c.arcs-3.ensures ∙ c.stand-2.ensures.arcs in
-    let arcs₂ = c.arcs-2.ensures ∙ c.stand-2.ensures.arcs in
-    let charged : c.charge_carried-charge.result ≡ charge (network_of (book_of s) (map g.C.Cost.meaning costs)) (loads_of (book_of after).arcs) =
-    c.charge_carried-charge.ensures ∙ ap (λ (es : List Arc). charge (net_of [] es (map g.C.Cost.meaning costs)) (loads_of es)) arcs₂ ∙ ap (λ (net : Net). charge net (loads_of (book_of after).arcs)) same in
-    let floored : c.floor_held-floor.result ≡ floor (network_of (book_of s) (map g.C.Cost.meaning costs)) (prices_of (book_of after).nodes) =
-    c.floor_held-floor.ensures ∙ ap (λ (es : List Arc). floor (net_of c.nodes-2.result.now es (map g.C.Cost.meaning costs)) (prices_of c.nodes-2.result.now)) arcs
-    ∙ ap (λ (ns : List Node). floor (net_of ns (book_of after).arcs (map g.C.Cost.meaning costs)) (prices_of ns)) nodes ∙ ap (λ (net : Net). floor net (prices_of (book_of after).nodes)) same in
-    let settled = ends_settled (book_of s) (map g.C.Cost.meaning costs) (sheet_sound s) (ap (settle_refusal (book_of s).nodes (book_of s).arcs) long ∙ told) (book_of after).nodes (book_of after).arcs
+    let costs = map g.C.Cost.meaning c.args.costs.now in
+    let long = length-map c.args.costs.now g.C.Cost.meaning in
+    let told : settle_refusal (book_of s).nodes (book_of s).arcs (length c.args.costs.now) ≡ None = search rules in
+    let after = book_of c.search.new.self in
+    let graph = c.graph-graph.result in
+    let book : book_of c.stand-2.new.self ≡ record { nodes = after.nodes; arcs = after.arcs; standing = standing.Settled } = search rules in
+    let nodes = c.graph-graph.ensures.nodes ∙ c.stand-2.ensures.nodes in
+    let arcs = c.graph-graph.ensures.arcs ∙ c.stand-2.ensures.arcs in
+    let same : net_in graph costs ≡ network_of (book_of s) costs =
+    rw (nodes, arcs) (same_bare (book_of s).nodes after.nodes (book_of s).arcs after.arcs costs (same_network (book_of s) after.nodes after.arcs c.search.ensures.nodes c.search.ensures.arcs)) in
+    let charged : c.charge_carried-charge.result ≡ charge (network_of (book_of s) costs) (loads_of after.arcs) =
+    c.charge_carried-charge.ensures ∙ ap (λ (net : Net). charge net (loads_of graph.arcs.now)) same ∙ ap (λ (es : List Arc). charge (network_of (book_of s) costs) (loads_of es)) arcs in
+    let floored : c.floor_held-floor.result ≡ floor (network_of (book_of s) costs) (prices_of after.nodes) =
+    c.floor_held-floor.ensures ∙ ap (λ (net : Net). floor net (prices_of graph.nodes.now)) same ∙ ap (λ (ns : List Node). floor (network_of (book_of s) costs) (prices_of ns)) nodes in
+    let settled = ends_settled (book_of s) costs (sheet_sound s) (ap (settle_refusal (book_of s).nodes (book_of s).arcs) long ∙ told) after.nodes after.arcs
     c.search.ensures.nodes c.search.ensures.arcs (c.search.ensures.found (search rules)) _ _ charged floored in
     let fx : SFits w64 c.charge_carried-charge.result = search rules in
     let fy : SFits w64 c.floor_held-floor.result = search rules in
-    let outcome = subst (λ (b : Book). Settles (book_of s) (map g.C.Cost.meaning costs) b (Ok (record { charge = c.charge_carried-charge.result; floor = c.floor_held-floor.result }))) (sym book) settled in
-    simp to_z-of_z (record { outcome = outcome; exactly = exactly s g.C.Cost.meaning costs _ _ outcome; refuses = refuses s g.C.Cost.meaning costs _ _ outcome })
+    let outcome = subst (λ (b : Book). Settles (book_of s) costs b (Ok (record { charge = c.charge_carried-charge.result; floor = c.floor_held-floor.result }))) (sym book) settled in
+    simp to_z-of_z (record { outcome = outcome; exactly = exactly s g.C.Cost.meaning c.args.costs.now _ _ outcome; refuses = refuses s g.C.Cost.meaning c.args.costs.now _ _ outcome })
