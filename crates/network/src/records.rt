@@ -7,7 +7,7 @@ pub const MOST_NODES: usize = 64;
 pub const MOST_ARCS: usize = 256;
 
 // What is known of a node; a mark says that it belongs to the set that bars every routing.
-#[derive(Clone, Copy, Debug, PartialEq, Eq)]
+#[derive(Clone, Copy, Debug, Default, PartialEq, Eq)]
 pub struct Node {
     pub supply: i64,
     pub price: i64,
@@ -15,7 +15,7 @@ pub struct Node {
 }
 
 // An arc: the nodes that it leaves and enters, counted from 0, and the load that it carries.
-#[derive(Clone, Copy, Debug, PartialEq, Eq)]
+#[derive(Clone, Copy, Debug, Default, PartialEq, Eq)]
 pub struct Arc {
     pub tail: usize,
     pub head: usize,
