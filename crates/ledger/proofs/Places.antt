@@ -1,5 +1,5 @@
 -- Places that numbers stand for, and the front of a list.
-use Rattle.std.proofs.Common.{◌≡◌, ℕ, zero, suc, ◌-◌, ◌<◌, Bool, true, false, cond, ◌&&◌, List, [], ◌∷◌, take, set, ℤ, pos, Some, None, Option, Result, sym, refl, ap, ◌∙◌, arith}
+use Rattle.std.proofs.Common.{◌≡◌, ℕ, zero, suc, ◌-◌, ◌<◌, Bool, true, false, cond, ◌&&◌, List, [], ◌∷◌, take, set, ℤ, pos, Some, None, Ok, Option, Result, refl, ap, ◌∙◌, arith}
 use lib.Signed.{le_z}
 use Rattle.std.proofs.lemmas.Int.{ints}
 use Rattle.cost.specs.Meaning.{natural}
@@ -20,9 +20,10 @@ place_below count number v e = go (le_z (pos 1) number && le_z number (pos count
     go false here =
         absurd (let e' : ◌≡◌ {A = Option ℕ} (Some v) None = e ∙ ap (λ (b : Bool). cond b (Some (natural number - 1)) None) here in let z : ◌≡◌ {A = ℕ} 0 1 = cc in omega arith)
 
--- what is asked by a number that something has, and by one that nothing has
-pub asked : {T : Type 0} (n count : ℕ) (number : ℤ) (answer : ℕ → Result T SheetFault) (place : Option ℕ) → n ≡ count → place ≡ place_in count number → at_number (place_in n number) answer ≡ at_number place answer
-asked n count number answer place e known = ap (λ (k : ℕ). at_number (place_in k number) answer) e ∙ ap (λ (p : Option ℕ). at_number p answer) (sym known)
+-- a place that was answered is the one that has the number
+pub place_found : (place : Option ℕ) (v : ℕ) → ◌≡◌ {A = Result ℕ SheetFault} (Ok v) (at_number place Ok) → Some v ≡ place
+place_found None v e = absurd (let z : ◌≡◌ {A = ℕ} 0 1 = cc in omega arith)
+place_found (Some k) v e = cc
 
 -- the front of a list in which one element is another
 pub take_of_set : {X : Type 0} (n : ℕ) (xs : List X) (k : ℕ) (x : X) → take n (set xs k x) ≡ set (take n xs) k x

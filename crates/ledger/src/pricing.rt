@@ -9,17 +9,13 @@ ghost use Rattle.ledger.specs.Calls.{charge_refusal, floor_refusal, needed};
 ghost use Rattle.ledger.specs.declared.faults.SheetFault.TheVariants.{List};
 
 use crate::faults::SheetFault;
+pub use crate::limits::PRICES;
 use cost::costs::Cost;
-use cost::numbers::{Limits, NumberFault};
+use cost::numbers::NumberFault;
 use network::charge::charge_of;
 use network::floor::floor_of;
 use network::graph::Graph;
 use network::routing::{first_out_of_range, first_unmet};
-
-pub const PRICES: Limits = Limits {
-    low: -100_000_000,
-    high: 100_000_000,
-};
 
 // Refuses another number of costs than there are arcs, and another number of loads or prices than there are to be.
 pub fn check_lists(
