@@ -1,2 +1,3 @@
+mod Mapped
 pub mod Tables
 mod Fronts

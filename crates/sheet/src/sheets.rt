@@ -5,16 +5,13 @@ ghost use Rattle.network.specs.Records.{no_node, no_arc};
 
 use ledger::standing::Standing;
 use network::records::{Arc, Node};
+pub use network::records::{MOST_ARCS, MOST_NODES};
 
 pub mod drafting;
 pub mod edits;
 pub mod lookups;
 pub mod pricing;
 pub mod settling;
-
-pub const MOST_NODES: usize = 64;
-
-pub const MOST_ARCS: usize = 256;
 
 // The records of a sheet, one for each node and one for each arc that it could have.
 #[derive(Clone, Copy)]
@@ -24,7 +21,8 @@ pub struct Table {
 }
 
 // A sheet has the first `node_count` nodes and the first `arc_count` arcs of its table. Each arc goes from a node of the sheet
-// to another node of the sheet, and each supply lies within its limits.
+// to another node of the sheet, and each supply lies within its limits. Counts stand beside the table, and no vector of fixed
+// capacity, since a sheet is plain data that is copied.
 #[derive(Clone, Copy)]
 pub struct Sheet {
     node_count: usize,

@@ -8,35 +8,26 @@ ghost use Rattle.sheet.specs.Sheets.{book_of};
 ghost use Rattle.ledger.specs.Books.{opened, reset_arc, reset_node};
 ghost use Rattle.ledger.specs.Calls.{supplied, supply_refusal, swap_refusal, swapped, with_supply};
 
-use crate::sheets::Sheet;
-use crate::sheets::lookups::place_of;
+use crate::sheets::{Sheet, Table};
 use cost::costs::Cost;
-use cost::numbers::Limits;
 use ledger::faults::SheetFault;
+pub use ledger::limits::SUPPLIES;
 use ledger::standing::Event;
 use network::records::{Arc, Node};
 
-pub const SUPPLIES: Limits = Limits {
-    low: -100_000,
-    high: 100_000,
-};
-
-// Takes price and mark from each node.
-fn reset_nodes(nodes: &mut [Node])
-    ensures { nodes.new ≡ map reset_node nodes.old }
-{
-    for node in nodes.iter_mut() {
-        node.price = 0;
-        node.marked = false;
-    }
-}
-
-// Takes the load from each arc.
-fn reset_arcs(arcs: &mut [Arc])
-    ensures { arcs.new ≡ map reset_arc arcs.old }
-{
-    for arc in arcs.iter_mut() {
-        arc.load = 0;
+impl Table {
+    // The same nodes and arcs, without prices, marks and loads.
+    fn reset(self) -> Table
+        ensures nodes { result.nodes ≡ map reset_node self.nodes }
+        ensures arcs { result.arcs ≡ map reset_arc self.arcs }
+    {
+        let nodes = self.nodes.map(|node| Node {
+            price: 0,
+            marked: false,
+            ..node
+        });
+        let arcs = self.arcs.map(|arc| Arc { load: 0, ..arc });
+        Table { nodes, arcs }
     }
 }
 
@@ -45,9 +36,8 @@ impl Sheet {
     fn reopen(&mut self)
         ensures { book_of self.new ≡ opened (book_of self.old).nodes (book_of self.old).arcs }
     {
-        let _ = self.standing.meet(Event::Edit);
-        reset_nodes(&mut self.table.nodes);
-        reset_arcs(&mut self.table.arcs);
+        self.table = self.table.reset();
+        self.stand(Event::Edit);
     }
 
     // Writes the supply of a node into its record.
@@ -87,9 +77,7 @@ impl Sheet {
         ensures after { book_of self.new ≡ kept_or (book_of self.old) (supply_refusal (book_of self.old) node amount) (supplied (book_of self.old) node amount) }
     {
         SUPPLIES.check(amount, 2)?;
-        let Some(v) = place_of(node, self.node_count) else {
-            return Err(SheetFault::Unknown(1));
-        };
+        let v = self.place_of_node(node)?;
         self.put_supply(v, amount);
         self.reopen();
         Ok(())
@@ -109,9 +97,7 @@ impl Sheet {
         if costs.len() != self.arc_count {
             return Err(SheetFault::List);
         }
-        let Some(a) = place_of(arc, self.arc_count) else {
-            return Err(SheetFault::Unknown(1));
-        };
+        let a = self.place_of_arc(arc)?;
         costs[a] = cost;
         self.reopen();
         Ok(())

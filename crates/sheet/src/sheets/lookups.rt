@@ -1,9 +1,9 @@
 // What a sheet answers when something is looked up in it.
-ghost use Rattle.std.specs.Prelude.{◌≡◌, ◌≤◌, [], length, replicate};
-ghost use Rattle.network.specs.Records.{no_node};
+ghost use Rattle.std.specs.Prelude.{◌≡◌, ◌≤◌, [], length, replicate, Ok, slice_index_or};
+ghost use Rattle.network.specs.Records.{no_arc, no_node};
 ghost use Rattle.sheet.specs.Sheets.{book_of};
 ghost use Rattle.ledger.specs.Books.{blank_book};
-ghost use Rattle.ledger.specs.Lookups.{ends_at, load_at, mark_at, place_in, price_at, supply_at};
+ghost use Rattle.ledger.specs.Lookups.{at_number, ends_at, load_at, mark_at, place_in, price_at, supply_at};
 ghost use Rattle.ledger.specs.declared.standing.Standing.TheVariants.{Open};
 
 use crate::sheets::{MOST_ARCS, MOST_NODES, Sheet, Table};
@@ -15,14 +15,8 @@ use network::records::{Arc, Node};
 pub(crate) fn place_of(number: i64, count: usize) -> Option<usize>
     ensures { result ≡ place_in count number }
 {
-    let Ok(number) = usize::try_from(number) else {
-        return None;
-    };
-    if 1 <= number && number <= count {
-        Some(number - 1)
-    } else {
-        None
-    }
+    let place = usize::try_from(number).ok()?.checked_sub(1)?;
+    if place < count { Some(place) } else { None }
 }
 
 impl Sheet {
@@ -31,22 +25,12 @@ impl Sheet {
         requires { count ≤ 64 }
         ensures { book_of result ≡ record { nodes = replicate count no_node; arcs = []; standing = Open } }
     {
-        let node = Node {
-            supply: 0,
-            price: 0,
-            marked: false,
-        };
-        let arc = Arc {
-            tail: 0,
-            head: 0,
-            load: 0,
-        };
         Sheet {
             node_count: count,
             arc_count: 0,
             table: Table {
-                nodes: [node; MOST_NODES],
-                arcs: [arc; MOST_ARCS],
+                nodes: [Node::default(); MOST_NODES],
+                arcs: [Arc::default(); MOST_ARCS],
             },
             standing: Standing::Open,
         }
@@ -77,59 +61,76 @@ impl Sheet {
         self.standing
     }
 
+    // The place of a node, from 0, by its number.
+    pub(crate) fn place_of_node(&self, number: i64) -> Result<usize, SheetFault>
+        ensures { result ≡ at_number (place_in (length (book_of self.now).nodes) number) Ok }
+    {
+        place_of(number, self.node_count).ok_or(SheetFault::Unknown(1))
+    }
+
+    // The place of an arc, from 0, by its number.
+    pub(crate) fn place_of_arc(&self, number: i64) -> Result<usize, SheetFault>
+        ensures { result ≡ at_number (place_in (length (book_of self.now).arcs) number) Ok }
+    {
+        place_of(number, self.arc_count).ok_or(SheetFault::Unknown(1))
+    }
+
+    // What is known of a node, by its number.
+    fn node(&self, number: i64) -> Result<Node, SheetFault>
+        ensures { result ≡ at_number (place_in (length (book_of self.now).nodes) number) (λ v. Ok (slice_index_or (book_of self.now).nodes v no_node)) }
+    {
+        let v = self.place_of_node(number)?;
+        Ok(self.table.nodes[v])
+    }
+
+    // What is known of an arc, by its number.
+    fn arc(&self, number: i64) -> Result<Arc, SheetFault>
+        ensures { result ≡ at_number (place_in (length (book_of self.now).arcs) number) (λ a. Ok (slice_index_or (book_of self.now).arcs a no_arc)) }
+    {
+        let a = self.place_of_arc(number)?;
+        Ok(self.table.arcs[a])
+    }
+
     // The supply of a node.
     pub fn supply_of(&self, node: i64) -> Result<i64, SheetFault>
         ensures { result ≡ supply_at (book_of self.now) node }
     {
-        match place_of(node, self.node_count) {
-            Some(v) => Ok(self.table.nodes[v].supply),
-            None => Err(SheetFault::Unknown(1)),
-        }
+        let node = self.node(node)?;
+        Ok(node.supply)
     }
 
     // The ends of an arc, as the numbers of its nodes.
     pub fn ends_of(&self, arc: i64) -> Result<(usize, usize), SheetFault>
         ensures { result ≡ ends_at (book_of self.now) arc }
     {
-        match place_of(arc, self.arc_count) {
-            Some(a) => Ok((self.table.arcs[a].tail + 1, self.table.arcs[a].head + 1)),
-            None => Err(SheetFault::Unknown(1)),
-        }
+        let arc = self.arc(arc)?;
+        Ok((arc.tail + 1, arc.head + 1))
     }
 
     // The load of an arc, while settled.
     pub fn load_of(&self, arc: i64) -> Result<i64, SheetFault>
         ensures { result ≡ load_at (book_of self.now) arc }
     {
-        let Some(a) = place_of(arc, self.arc_count) else {
-            return Err(SheetFault::Unknown(1));
-        };
-        let mut standing = self.stands();
-        standing.meet(Event::ReadRouting)?;
-        Ok(self.table.arcs[a].load)
+        let arc = self.arc(arc)?;
+        self.stands().check(Event::ReadRouting)?;
+        Ok(arc.load)
     }
 
     // The price of a node, while settled.
     pub fn price_of(&self, node: i64) -> Result<i64, SheetFault>
         ensures { result ≡ price_at (book_of self.now) node }
     {
-        let Some(v) = place_of(node, self.node_count) else {
-            return Err(SheetFault::Unknown(1));
-        };
-        let mut standing = self.stands();
-        standing.meet(Event::ReadRouting)?;
-        Ok(self.table.nodes[v].price)
+        let node = self.node(node)?;
+        self.stands().check(Event::ReadRouting)?;
+        Ok(node.price)
     }
 
     // Whether a node is marked, while barred.
     pub fn mark_of(&self, node: i64) -> Result<bool, SheetFault>
         ensures { result ≡ mark_at (book_of self.now) node }
     {
-        let Some(v) = place_of(node, self.node_count) else {
-            return Err(SheetFault::Unknown(1));
-        };
-        let mut standing = self.stands();
-        standing.meet(Event::ReadMarks)?;
-        Ok(self.table.nodes[v].marked)
+        let node = self.node(node)?;
+        self.stands().check(Event::ReadMarks)?;
+        Ok(node.marked)
     }
 }

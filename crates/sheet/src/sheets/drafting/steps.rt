@@ -10,24 +10,33 @@ ghost use Rattle.ledger.specs.Limits.{size_limits};
 ghost use Rattle.ledger.specs.declared.faults.DraftFault.TheVariants.{Number};
 
 use crate::sheets::drafting::{Draft, Size};
-use crate::sheets::edits::SUPPLIES;
 use crate::sheets::lookups::place_of;
 use crate::sheets::{MOST_ARCS, Sheet};
-use cost::numbers::Limits;
 use ledger::faults::DraftFault;
+pub use ledger::limits::SIZES;
+use ledger::limits::SUPPLIES;
 use ledger::standing::Standing;
 
-pub const SIZES: Limits = Limits { low: 0, high: 64 };
+impl TryFrom<i64> for Size {
+    type Error = DraftFault;
+
+    ghost try_from_gives = { λ count r. (result_err r ≡ option_map Number (outside size_limits 1 count)) × IfOk r (λ s. pos s.count ≡ count) };
+
+    // Checks a node count.
+    fn try_from(count: i64) -> Result<Size, DraftFault> {
+        SIZES.check(count, 1)?;
+        Ok(Size {
+            count: count as usize,
+        })
+    }
+}
 
 // Checks a node count.
 pub fn size(count: i64) -> Result<Size, DraftFault>
     ensures answer { result_err result ≡ option_map Number (outside size_limits 1 count) }
     ensures count { IfOk result (λ s. pos s.count ≡ count) }
 {
-    SIZES.check(count, 1)?;
-    Ok(Size {
-        count: count as usize,
-    })
+    Size::try_from(count)
 }
 
 impl Draft {
@@ -64,12 +73,9 @@ impl Draft {
         if laid >= MOST_ARCS {
             return Err(DraftFault::Full(MOST_ARCS));
         }
-        let Some(from) = place_of(tail, self.book.node_count) else {
-            return Err(DraftFault::Unknown(1));
-        };
-        let Some(to) = place_of(head, self.book.node_count) else {
-            return Err(DraftFault::Unknown(2));
-        };
+        let nodes = self.book.node_count;
+        let from = place_of(tail, nodes).ok_or(DraftFault::Unknown(1))?;
+        let to = place_of(head, nodes).ok_or(DraftFault::Unknown(2))?;
         if from == to {
             return Err(DraftFault::Loop(laid + 1));
         }
