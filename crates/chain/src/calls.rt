@@ -1,4 +1,9 @@
 // The calls of a chain, and what is known as it goes on.
+ghost use Rattle.std.specs.Prelude.{◌≡◌};
+ghost use Rattle.std.specs.Result.{result_err};
+ghost use Rattle.cost.specs.Places.{kept_or};
+ghost use Rattle.chain.specs.Steps.{after_edit, after_settling};
+
 use ledger::faults::SheetFault;
 use ledger::settling::Amounts;
 
@@ -19,10 +24,39 @@ pub enum Kind {
 }
 
 // Which accepted call came last, and what settle answered since the last edit that was accepted, if it was called since.
-#[derive(Clone, Copy, Debug)]
+#[derive(Clone, Copy, Debug, Default)]
 pub struct Progress {
     pub last: Option<Kind>,
     pub answer: Option<Result<Amounts, SheetFault>>,
+}
+
+impl Progress {
+    // After an edit: if it was accepted it came last, and nothing is known of settling.
+    pub(crate) fn after_edit(self, kind: Kind, edit: Result<(), SheetFault>) -> Progress
+        ensures { result ≡ kept_or self (result_err edit) (after_edit kind) }
+    {
+        match edit {
+            Ok(()) => Progress {
+                last: Some(kind),
+                answer: None,
+            },
+            Err(_) => self,
+        }
+    }
+
+    // After a settling its answer is known, and if it was accepted it came last.
+    pub(crate) fn after_settling(self, answer: Result<Amounts, SheetFault>) -> Progress
+        ensures { result ≡ after_settling self answer }
+    {
+        Progress {
+            last: if answer.is_ok() {
+                Some(Kind::Settle)
+            } else {
+                self.last
+            },
+            answer: Some(answer),
+        }
+    }
 }
 
 // What a chain comes to: which accepted call came last, and what settle answers for the book and the costs as the chain left them.

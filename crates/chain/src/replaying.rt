@@ -30,31 +30,11 @@ fn make<C: Cost + Copy>(
     ensures { Step C.Cost.meaning call.now (book_of sheet.old) costs.old (book_of sheet.new) costs.new so_far result }
 {
     match *call {
-        Call::Supply { node, amount } => match sheet.supply(node, amount) {
-            Ok(()) => Progress {
-                last: Some(Kind::Supply),
-                answer: None,
-            },
-            Err(_) => so_far,
-        },
-        Call::Swap { arc, cost } => match sheet.swap(arc, cost, costs) {
-            Ok(()) => Progress {
-                last: Some(Kind::Swap),
-                answer: None,
-            },
-            Err(_) => so_far,
-        },
-        Call::Settle => {
-            let answer = sheet.settle(costs);
-            Progress {
-                last: if answer.is_ok() {
-                    Some(Kind::Settle)
-                } else {
-                    so_far.last
-                },
-                answer: Some(answer),
-            }
+        Call::Supply { node, amount } => {
+            so_far.after_edit(Kind::Supply, sheet.supply(node, amount))
         }
+        Call::Swap { arc, cost } => so_far.after_edit(Kind::Swap, sheet.swap(arc, cost, costs)),
+        Call::Settle => so_far.after_settling(sheet.settle(costs)),
     }
 }
 
@@ -63,17 +43,11 @@ fn make<C: Cost + Copy>(
 pub fn replay<C: Cost + Copy>(sheet: &mut Sheet, costs: &mut [C], calls: &[Call<C>]) -> Report
     ensures { Replayed C.Cost.meaning (record { book = book_of sheet.old; costs = costs.old }) calls.now (record { book = book_of sheet.new; costs = costs.new }) result }
 {
-    let mut so_far = Progress {
-        last: None,
-        answer: None,
-    };
+    let mut so_far = Progress::default();
     for call in calls {
         so_far = make(sheet, costs, call, so_far);
     }
-    let outlook = match so_far.answer {
-        Some(answer) => answer,
-        None => preview(sheet, costs),
-    };
+    let outlook = so_far.answer.unwrap_or_else(|| preview(sheet, costs));
     Report {
         last: so_far.last,
         outlook,

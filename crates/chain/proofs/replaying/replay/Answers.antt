@@ -5,7 +5,7 @@ use Rattle.sheet.specs.Sheets.{book_of}
 use Rattle.sheet.proofs.Tables.{sheet_sound}
 use Rattle.chain.specs.Chains.{Desk}
 use Rattle.chain.specs.declared.calls.Call.{Call}
-use Rattle.chain.proofs.Whole.{Reached, reached_more, replayed_kept, replayed_asked}
+use Rattle.chain.proofs.Whole.{Reached, reached_more, replayed_end}
 use Rattle.chain.proofs.replaying.replay.Goals as goal
 
 pub loop-call-preserved : goal.loop-call-preserved
@@ -14,16 +14,9 @@ loop-call-preserved g c =
     (book_of c.loop-call.sheet) (book_of c.make-so_far.new.sheet) c.loop-call.costs c.make-so_far.new.costs c.loop-call.so_far c.make-so_far.result (sheet_sound c.loop-call.sheet)
     c.loop-call.invariant c.make-so_far.ensures
 
-pub returns-in-Some : goal.returns-in-Some
-returns-in-Some g c =
+pub returns : goal.returns
+returns g c =
     let start : Desk g.row.C.Denot = record { book = book_of c.args.sheet.now; costs = c.args.costs.now } in
     let whole = subst (λ (seen : List (Call g.row.C.Denot)). Reached g.C.Cost.meaning start seen (book_of c.loop-call.sheet) c.loop-call.costs c.loop-call.so_far)
     (take_all c.loop-call.call-index c.args.calls.now c.loop-call-test.false) c.loop-call.invariant in
-    replayed_kept g.C.Cost.meaning start c.args.calls.now (book_of c.loop-call.sheet) c.loop-call.costs c.loop-call.so_far (sheet_sound c.loop-call.sheet) whole c.in-Some.answer (search rules)
-
-pub returns-in-None : goal.returns-in-None
-returns-in-None g c =
-    let start : Desk g.row.C.Denot = record { book = book_of c.args.sheet.now; costs = c.args.costs.now } in
-    let whole = subst (λ (seen : List (Call g.row.C.Denot)). Reached g.C.Cost.meaning start seen (book_of c.loop-call.sheet) c.loop-call.costs c.loop-call.so_far)
-    (take_all c.loop-call.call-index c.args.calls.now c.loop-call-test.false) c.loop-call.invariant in
-    replayed_asked g.C.Cost.meaning start c.args.calls.now (book_of c.loop-call.sheet) c.loop-call.costs c.loop-call.so_far (sheet_sound c.loop-call.sheet) whole c.preview-outlook.result (search rules) c.preview-outlook.ensures
+    replayed_end g.C.Cost.meaning start c.args.calls.now (book_of c.loop-call.sheet) c.loop-call.costs c.loop-call.so_far (sheet_sound c.loop-call.sheet) whole c.unwrap_or_else-outlook.result (search rules)
