@@ -13,9 +13,8 @@ pub use crate::limits::PRICES;
 use cost::costs::Cost;
 use cost::numbers::NumberFault;
 use network::charge::charge_of;
-use network::floor::floor_of;
 use network::graph::Graph;
-use network::routing::{first_out_of_range, first_unmet};
+use network::routing::first_out_of_range;
 
 // Refuses another number of costs than there are arcs, and another number of loads or prices than there are to be.
 pub fn check_lists(
@@ -42,7 +41,7 @@ pub fn charged<C: Cost>(graph: &Graph<'_>, costs: &[C], loads: &[i64]) -> Result
     if let Some(arc) = first_out_of_range(costs, loads) {
         return Err(SheetFault::Range(arc));
     }
-    if let Some(node) = first_unmet(graph.nodes, graph.arcs, loads) {
+    if let Some(node) = graph.first_unmet(loads) {
         return Err(SheetFault::Surplus(node));
     }
     Ok(charge_of(costs, loads))
@@ -58,5 +57,5 @@ pub fn floored<C: Cost>(graph: &Graph<'_>, costs: &[C], prices: &[i64]) -> Resul
     if let Some(node) = PRICES.first_outside(prices) {
         return Err(SheetFault::Number(NumberFault::Outside(node)));
     }
-    Ok(floor_of(graph.nodes, graph.arcs, costs, prices))
+    Ok(graph.floor_of(costs, prices))
 }

@@ -14,7 +14,6 @@ use crate::faults::SheetFault;
 use arrayvec::ArrayVec;
 use cost::costs::Cost;
 use network::charge::charge_of;
-use network::floor::floor_of;
 use network::graph::Graph;
 use network::records::{MOST_ARCS, MOST_NODES, Node};
 
@@ -87,5 +86,5 @@ pub fn floor_held<C: Cost>(graph: &Graph<'_>, costs: &[C]) -> i64
     ensures { result ≡ floor (net_in graph.now (map C.Cost.meaning costs.now)) (prices_of graph.now.nodes.now) }
 {
     let prices: ArrayVec<i64, MOST_NODES> = numbers_of(graph.nodes, |node| node.price);
-    floor_of(graph.nodes, graph.arcs, costs, prices.as_slice())
+    graph.floor_of(costs, prices.as_slice())
 }
