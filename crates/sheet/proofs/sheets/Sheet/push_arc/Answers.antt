@@ -1,5 +1,5 @@
-use Rattle.std.proofs.Common.{◌≡◌, ◌<◌, pos, ◌∙◌, arith, rules}
-use Rattle.std.proofs.lemmas.List.{length-set, take_more_set}
+use Rattle.std.proofs.Common.{◌≡◌, ◌<◌, pos, ◌∙◌, arith}
+use Rattle.std.proofs.lemmas.List.{length-set}
 use Rattle.network.specs.declared.records.Arc.{Arc}
 use Rattle.sheet.proofs.Tables.{push_keeps}
 use Rattle.sheet.proofs.sheets.Sheet.push_arc.Goals as goal
@@ -18,10 +18,3 @@ invariant_of-self c =
       supplies = s.supplies;
       loops = push_keeps s arc (λ x. x.tail ≡ x.head → ⊥) c.requires.room c.requires.apart s.loops;
     }
-
-pub returns : goal.returns
-returns c =
-    let s = c.args.self.now in
-    let arc : Arc = record { tail = c.args.tail; head = c.args.head; load = pos 0 } in
-    let more = take_more_set s.table.arcs s.arc_count arc (omega (arith, s.arc_places, c.requires.room)) in
-    search rules

@@ -3,7 +3,7 @@ use Rattle.std.proofs.lemmas.List.{length-set}
 use Rattle.std.proofs.lemmas.Int.{to_z-of_z}
 use Rattle.network.specs.Records.{no_node}
 use Rattle.ledger.specs.Calls.{with_supply}
-use Rattle.ledger.proofs.Places.{take_of_set}
+use Rattle.std.proofs.Math.Seq.{take-set-lt}
 use Rattle.sheet.proofs.Tables.{node_kept, put_limit}
 use Rattle.sheet.proofs.sheets.Sheet.put_supply.Goals as goal
 
@@ -22,11 +22,11 @@ invariant_of-self c =
       loops = s.loops;
     }
 
-pub returns : goal.returns
-returns c =
+pub returns-clause-nodes : goal.returns-clause-nodes
+returns-clause-nodes c =
     let s = c.args.self.now in
     let v = c.args.v in
     let kept = node_kept s v c.requires.0 in
-    let front = take_of_set s.node_count s.table.nodes v (with_supply c.args.amount (get_or s.table.nodes v no_node)) in
+    let front = take-set-lt s.node_count s.table.nodes v (with_supply c.args.amount (get_or s.table.nodes v no_node)) c.requires.0 in
     let amount = c.ranges.amount in
     search rules
