@@ -2,29 +2,30 @@
 use crate::checks::{book, check_stands};
 use chain::calls::{Call, Kind};
 use chain::replaying::{preview, replay};
+use cost::refusals::Refusal;
 use ledger::standing::Standing;
 use std::process::Abort;
 use std::test::Fail;
 use stepped_cost::stepped::Stepped;
 
 // On a book with supplies 1 and -1 and one arc: the kind of the call that is accepted last, how the book then stands, and by which
-// number settle refuses it, or 0.
+// number settle refuses it, if it does.
 fn check_chain(
     rt: &impl Abort,
     costs: &mut [Stepped],
     calls: &[Call<Stepped>],
     last: Option<Kind>,
     standing: Standing,
-    refused: usize,
+    refused: Option<usize>,
 ) -> Result<(), Fail> {
     let mut sheet = book(&[1, -1], &[(1, 2)])?;
     let report = replay(&mut sheet, costs, calls);
     assert_eq!(rt; report.last, last);
     check_stands(rt, &sheet, standing);
-    let number = match report.outlook {
-        Ok(_) => 0,
-        Err(fault) => fault.refusal().number,
-    };
+    let number = report
+        .outlook
+        .err()
+        .map(|fault| Refusal::from(fault).number);
     assert_eq!(rt; number, refused);
     Ok(())
 }
@@ -40,41 +41,41 @@ fn last_accepted(rt: HostRuntime) -> Result<(), Fail> {
     };
     let widen = Call::Swap { arc: 1, cost: wide };
     let unknown = Call::Swap { arc: 2, cost: wide };
-    let cases: [(&[Call<Stepped>], Option<Kind>, Standing, usize); 7] = [
+    let cases: [(&[Call<Stepped>], Option<Kind>, Standing, Option<usize>); 7] = [
         // an empty chain
-        (&[], None, Standing::Open, 0),
-        (&[Call::Settle], Some(Kind::Settle), Standing::Settled, 0),
+        (&[], None, Standing::Open, None),
+        (&[Call::Settle], Some(Kind::Settle), Standing::Settled, None),
         // an edit opens the book again, a refused one does not
         (
             &[Call::Settle, feed],
             Some(Kind::Supply),
             Standing::Open,
-            10,
+            Some(10),
         ),
         (
             &[Call::Settle, unknown],
             Some(Kind::Settle),
             Standing::Settled,
-            0,
+            None,
         ),
         // unbalanced, then barred: neither is accepted
         (
             &[feed, Call::Settle],
             Some(Kind::Supply),
             Standing::Open,
-            10,
+            Some(10),
         ),
         (
             &[feed, drain, Call::Settle],
             Some(Kind::Supply),
             Standing::Barred,
-            11,
+            Some(11),
         ),
         (
             &[feed, drain, Call::Settle, widen, Call::Settle, unknown],
             Some(Kind::Settle),
             Standing::Settled,
-            0,
+            None,
         ),
     ];
     for (calls, last, standing, refused) in cases.iter().copied() {

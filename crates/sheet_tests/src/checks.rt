@@ -10,56 +10,43 @@ use sheet::sheets::drafting::steps::size;
 use std::process::Abort;
 use std::test::Fail;
 
-// The answer is accepted exactly where the number is 0, and else the refusal with that number and place, in the layer of drafts.
+// The number and the place of a refusal, where a call is not accepted.
+pub(crate) type Refused = Option<(usize, usize)>;
+
+// The answer is accepted where nothing is refused, and else its fault is reported by this number and place in this layer.
+fn check_answer<T: Drop, F: Drop>(
+    rt: &impl Abort,
+    answer: Result<T, F>,
+    refused: Refused,
+    layer: Layer,
+)
+where
+    Refusal: From<F>,
+{
+    let refusal = refused.map(|(number, place)| Refusal {
+        number,
+        place,
+        layer,
+    });
+    assert_eq!(rt; answer.err().map(Refusal::from), refusal);
+}
+
+// The answer of a step of a draft is refused so, or accepted.
 pub(crate) fn check_draft<T: Drop>(
     rt: &impl Abort,
     answer: Result<T, DraftFault>,
-    number: usize,
-    place: usize,
-) -> Result<(), Fail> {
-    match answer {
-        Ok(_) => {
-            assert_eq!(rt; number, 0);
-            Ok(())
-        },
-        Err(fault) => {
-            assert_eq!(rt;
-                fault.refusal(),
-                Refusal {
-                    number,
-                    place,
-                    layer: Layer::Draft,
-                }
-            );
-            Ok(())
-        },
-    }
+    refused: Refused,
+) {
+    check_answer(rt, answer, refused, Layer::Draft);
 }
 
-// The same in the layer of sheets.
+// The answer of a call on a sheet is refused so, or accepted.
 pub(crate) fn check_sheet<T: Drop>(
     rt: &impl Abort,
     answer: Result<T, SheetFault>,
-    number: usize,
-    place: usize,
-) -> Result<(), Fail> {
-    match answer {
-        Ok(_) => {
-            assert_eq!(rt; number, 0);
-            Ok(())
-        },
-        Err(fault) => {
-            assert_eq!(rt;
-                fault.refusal(),
-                Refusal {
-                    number,
-                    place,
-                    layer: Layer::Sheet,
-                }
-            );
-            Ok(())
-        },
-    }
+    refused: Refused,
+) {
+    check_answer(rt, answer, refused, Layer::Sheet);
 }
 
 // The book with these supplies and these arcs.
@@ -99,10 +86,9 @@ pub(crate) fn check_unsettled<C: Cost>(
     rt: &impl Abort,
     sheet: &mut Sheet,
     costs: &[C],
-    number: usize,
-    place: usize,
-) -> Result<(), Fail> {
-    check_sheet(rt, sheet.settle(costs), number, place)
+    refused: (usize, usize),
+) {
+    check_sheet(rt, sheet.settle(costs), Some(refused));
 }
 
 // The sheet stands so.
@@ -112,9 +98,7 @@ pub(crate) fn check_stands(rt: &impl Abort, sheet: &Sheet, standing: Standing) {
 
 // These are the loads of the arcs, in order.
 pub(crate) fn check_loads(rt: &impl Abort, sheet: &Sheet, loads: &[i64]) -> Result<(), Fail> {
-    let mut arc = 0i64;
-    for load in loads {
-        arc = arc.wrapping_add(1);
+    for (arc, load) in (1..).zip(loads) {
         assert_eq!(rt; sheet.load_of(arc)?, *load);
     }
     Ok(())
