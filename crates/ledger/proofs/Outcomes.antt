@@ -6,6 +6,7 @@ use Rattle.std.proofs.lemmas.Int.{ints}
 use Rattle.std.proofs.lemmas.Bool.{eqb-true, eq-eqb, true≢false}
 use Rattle.cost.specs.Meaning.{Meaning}
 use Rattle.cost.proofs.Refusing.{neither, passed}
+use Rattle.network.specs.Sums.{count}
 use Rattle.network.specs.Network.{Net, Ends, Meets, surplus, charge, floor, Cheapest, Highest}
 use Rattle.network.specs.Records.{no_node, no_arc, is_zero, Sound}
 use Rattle.network.specs.declared.records.Node.{Node}
@@ -15,7 +16,6 @@ use Rattle.network.proofs.Cuts.{conservation, over_full_bars}
 use Rattle.network.proofs.Duality.{equal_exactly_when_best}
 use Rattle.network.proofs.Nets.{sound_ends}
 use Rattle.network.proofs.Sums.{sum_none}
-use Rattle.flow.specs.Labels.{count}
 use Rattle.search.specs.Settled.{loads_of, prices_of, marks_of, SameNodes, SameArcs, Settled, Barred}
 use Rattle.search.proofs.Whole.{meets_same, over_full_same}
 use Rattle.ledger.specs.Books.{Book, network_of, opened, reset_node, reset_arc}

@@ -4,12 +4,11 @@ use Rattle.std.specs.List.{count_by}
 use Rattle.std.proofs.lemmas.Int.{ints}
 use Rattle.std.proofs.lemmas.List.{take_all}
 use Rattle.std.proofs.lemmas.List.Sums.{count_by_more_no, count_by_more_yes}
-use Rattle.network.specs.Sums.{sum}
+use Rattle.network.specs.Sums.{count, sum}
 use Rattle.network.specs.Records.{no_node}
 use Rattle.network.specs.declared.graph.Graph.{Graph}
 use Rattle.network.proofs.Gathers.{Gathers, Moderate, gathers}
 use Rattle.network.proofs.Sums.{sum_more, sum_within}
-use Rattle.flow.specs.Labels.{count}
 
 module _ (graph : Graph) where
   abbrev supply : ℕ → ℤ

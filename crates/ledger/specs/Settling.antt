@@ -2,12 +2,11 @@
 use Rattle.std.specs.Prelude.{◌≡◌, ℕ, suc, ◌<◌, Bool, false, ◌↔◌, List, length, ℤ, pos, negsuc, Some, None, Ok, Err, Option, Result, ◌==◌, slice_index_or}
 use Rattle.cost.specs.Meaning.{Meaning, Between}
 use Rattle.cost.specs.Places.{or_else}
-use Rattle.network.specs.Sums.{sum}
+use Rattle.network.specs.Sums.{count, sum}
 use Rattle.network.specs.Network.{Net, Meets, Cheapest, Highest, charge, floor, OverFull}
 use Rattle.network.specs.Records.{no_node, no_arc, is_zero}
 use Rattle.network.specs.declared.records.Node.{Node}
 use Rattle.network.specs.declared.records.Arc.{Arc}
-use Rattle.flow.specs.Labels.{count}
 use Rattle.ledger.specs.Books.{Book, opened, network_of}
 use Rattle.ledger.specs.Calls.{needed}
 use Rattle.ledger.specs.Lookups.{load_at, price_at, mark_at}

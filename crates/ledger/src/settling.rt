@@ -3,10 +3,10 @@ ghost use Rattle.std.specs.Prelude.{◌≡◌, ℕ, ◌<◌, ◌≤◌, map, len
 ghost use Rattle.std.specs.Fn.{FnReturnsAt};
 ghost use Rattle.std.specs.Result.{result_err};
 ghost use Rattle.cost.specs.Meaning.{Between};
+ghost use Rattle.network.specs.Sums.{count};
 ghost use Rattle.network.specs.Network.{charge, floor, Routing};
 ghost use Rattle.network.specs.Graphs.{net_in};
 ghost use Rattle.network.specs.Records.{numbers};
-ghost use Rattle.flow.specs.Labels.{count};
 ghost use Rattle.search.specs.Settled.{loads_of, prices_of, marks_of};
 ghost use Rattle.ledger.specs.Settling.{settle_refusal, supply_sum};
 
