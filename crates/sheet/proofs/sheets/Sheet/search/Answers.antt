@@ -1,7 +1,6 @@
 -- What the search leaves in the records that are lent to it, it leaves in the book.
-use Rattle.std.proofs.Common.{◌≡◌, Bool, true, false, map, length, is_ok, Ok, Err, Result, sym, ◌∙◌, arith}
+use Rattle.std.proofs.Common.{map, length, sym, ◌∙◌, arith}
 use Rattle.std.specs.Result.{OnOk, OnErr}
-use Rattle.std.proofs.lemmas.Bool.{true≢false}
 use Rattle.network.specs.Records.{net_of}
 use Rattle.search.specs.Settled.{SameNodes, SameArcs, Settled, Barred}
 use Rattle.sheet.specs.Sheets.{book_of}
@@ -9,15 +8,6 @@ use Rattle.ledger.proofs.Parts.{whole_part}
 use Rattle.sheet.proofs.Fronts.{fronted_length, lent_sound, lent_nodes, lent_arcs, tail_back, head_back, supply_back, put_back}
 use Rattle.ledger.proofs.Outcomes.{ready_to_settle}
 use Rattle.sheet.proofs.sheets.Sheet.search.Goals as goal
-
--- what holds on `Ok`, or on `Err`, by the test for it
-if_ok : {T E P : Type 0} (r : Result T E) (test : Bool) → test ≡ is_ok r → OnOk r P → test ≡ true → P
-if_ok (Ok x) test is holds e = holds
-if_ok (Err f) test is holds e = absurd (true≢false (sym e ∙ is))
-
-if_err : {T E P : Type 0} (r : Result T E) (test : Bool) → test ≡ is_ok r → OnErr r P → test ≡ false → P
-if_err (Ok x) test is holds e = absurd (true≢false (sym is ∙ e))
-if_err (Err f) test is holds e = holds
 
 pub settle-requires : goal.settle-requires
 settle-requires g c =
@@ -58,6 +48,6 @@ returns g c =
     record {
       nodes = put_back s nodes arcs many_nodes many_arcs (λ ns es ns' es'. SameNodes ns ns') c.settle.ensures.nodes;
       arcs = put_back s nodes arcs many_nodes many_arcs (λ ns es ns' es'. SameArcs es es') c.settle.ensures.arcs;
-      found = if_ok c.settle.result c.is_ok.result c.is_ok.ensures.value (put_back s nodes arcs many_nodes many_arcs (λ ns es ns' es'. OnOk c.settle.result (Settled (net_of ns es costs) ns' es')) c.settle.ensures.settled);
-      bars = if_err c.settle.result c.is_ok.result c.is_ok.ensures.value (put_back s nodes arcs many_nodes many_arcs (λ ns es ns' es'. OnErr c.settle.result (Barred (net_of ns es costs) ns' es')) c.settle.ensures.barred);
+      found = put_back s nodes arcs many_nodes many_arcs (λ ns es ns' es'. OnOk c.settle.result (Settled (net_of ns es costs) ns' es')) c.settle.ensures.settled;
+      bars = put_back s nodes arcs many_nodes many_arcs (λ ns es ns' es'. OnErr c.settle.result (Barred (net_of ns es costs) ns' es')) c.settle.ensures.barred;
     }

@@ -7,7 +7,7 @@ use Rattle.network.specs.Network.{Net, charge, floor}
 use Rattle.network.specs.Graphs.{net_in}
 use Rattle.network.specs.declared.records.Node.{Node}
 use Rattle.network.specs.declared.records.Arc.{Arc}
-use Rattle.search.specs.Settled.{loads_of, prices_of}
+use Rattle.search.specs.Settled.{loads_of, prices_of, Settled}
 use Rattle.network.proofs.Nets.{sound_ends}
 use Rattle.sheet.specs.Sheets.{book_of}
 use Rattle.ledger.specs.Books.{Book, network_of}
@@ -45,8 +45,8 @@ returns-in_err-check_settling g c =
     let outcome = ends_refused (book_of s) (map g.C.Cost.meaning costs) f c.from_residual.result (ap (settle_refusal (book_of s).nodes (book_of s).arcs) long ∙ told) is in
     record { outcome = outcome; exactly = exactly s g.C.Cost.meaning costs (book_of s) _ outcome; refuses = refuses s g.C.Cost.meaning costs (book_of s) _ outcome }
 
-pub returns-then-not-search : goal.returns-then-not-search
-returns-then-not-search g c =
+pub returns-in-Err : goal.returns-in-Err
+returns-in-Err g c =
     let s = c.args.self.now in
     let costs = c.args.costs.now in
     let long = length-map costs g.C.Cost.meaning in
@@ -54,14 +54,14 @@ returns-then-not-search g c =
     let after = c.search.new.self in
     let book : book_of c.stand.new.self ≡ record { nodes = (book_of after).nodes; arcs = (book_of after).arcs; standing = standing.Barred } = search rules in
     let barred = ends_barred (book_of s) (map g.C.Cost.meaning costs) (sheet_sound s) (ap (settle_refusal (book_of s).nodes (book_of s).arcs) long ∙ told) (book_of after).nodes (book_of after).arcs
-    c.search.ensures.nodes c.search.ensures.arcs (c.search.ensures.bars (search rules)) c.count_marked.result (search rules) in
+    c.search.ensures.nodes c.search.ensures.arcs (search rules) c.count_marked.result (search rules) in
     let outcome = subst (λ (b : Book). Settles (book_of s) (map g.C.Cost.meaning costs) b (Err (fault.Barred c.count_marked.result))) (sym book) barred in
     record { outcome = outcome; exactly = exactly s g.C.Cost.meaning costs _ _ outcome; refuses = refuses s g.C.Cost.meaning costs _ _ outcome }
 
 pub floor_held-floor-requires : goal.floor_held-floor-requires
 floor_held-floor-requires g c =
     let s = c.args.self.now in
-    let found = c.search.ensures.found (search rules) in
+    let found : Settled (network_of (book_of s) (map g.C.Cost.meaning c.args.costs.now)) (book_of c.search.new.self).nodes (book_of c.search.new.self).arcs = search rules in
     let told : settle_refusal (book_of s).nodes (book_of s).arcs (length c.args.costs.now) ≡ None = search rules in
     let nodes = c.graph-graph.ensures.nodes ∙ c.stand-2.ensures.nodes in
     let arcs = c.graph-graph.ensures.arcs ∙ c.stand-2.ensures.arcs in
@@ -88,7 +88,7 @@ returns g c =
     let floored : c.floor_held-floor.result ≡ floor (network_of (book_of s) costs) (prices_of after.nodes) =
     c.floor_held-floor.ensures ∙ ap (λ (net : Net). floor net (prices_of graph.nodes.now)) same ∙ ap (λ (ns : List Node). floor (network_of (book_of s) costs) (prices_of ns)) nodes in
     let settled = ends_settled (book_of s) costs (sheet_sound s) (ap (settle_refusal (book_of s).nodes (book_of s).arcs) long ∙ told) after.nodes after.arcs
-    c.search.ensures.nodes c.search.ensures.arcs (c.search.ensures.found (search rules)) _ _ charged floored in
+    c.search.ensures.nodes c.search.ensures.arcs (search rules) _ _ charged floored in
     let fx : SFits w64 c.charge_carried-charge.result = search rules in
     let fy : SFits w64 c.floor_held-floor.result = search rules in
     let outcome = subst (λ (b : Book). Settles (book_of s) costs b (Ok (record { charge = c.charge_carried-charge.result; floor = c.floor_held-floor.result }))) (sym book) settled in
