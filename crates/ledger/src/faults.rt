@@ -121,21 +121,3 @@ impl fmt::Display for SheetFault {
 }
 
 impl Error for SheetFault {}
-
-impl DraftFault {
-    // The refusal that is reported for a fault of a draft.
-    pub fn refusal(self) -> Refusal
-        ensures { result ≡ draft_refusal self }
-    {
-        Refusal::from(self)
-    }
-}
-
-impl SheetFault {
-    // The refusal that is reported for a fault of a sheet.
-    pub fn refusal(self) -> Refusal
-        ensures { result ≡ sheet_refusal self }
-    {
-        Refusal::from(self)
-    }
-}
