@@ -8,7 +8,7 @@ use stepped_cost::stepped::Stepped;
 
 // A kind of cost of which there are small random ones, with at most five loads each.
 pub(crate) trait Small: Cost + Copy {
-    fn word() -> &'static str;
+    const WORD: &'static str;
 
     fn made(random: &mut Random) -> Result<Self, CostFault>;
 }
@@ -20,9 +20,7 @@ fn rising_slopes(random: &mut Random) -> [i64; 2] {
 }
 
 impl Small for Stepped {
-    fn word() -> &'static str {
-        "stepped"
-    }
+    const WORD: &'static str = "stepped";
 
     fn made(random: &mut Random) -> Result<Stepped, CostFault> {
         let first = (random.between(0, 3) - 2).max(0);
@@ -35,9 +33,7 @@ impl Small for Stepped {
 }
 
 impl Small for Quadratic {
-    fn word() -> &'static str {
-        "quadratic"
-    }
+    const WORD: &'static str = "quadratic";
 
     fn made(random: &mut Random) -> Result<Quadratic, CostFault> {
         Quadratic::new(
@@ -49,9 +45,7 @@ impl Small for Quadratic {
 }
 
 impl Small for Cap<Stepped> {
-    fn word() -> &'static str {
-        "cap over stepped"
-    }
+    const WORD: &'static str = "cap over stepped";
 
     fn made(random: &mut Random) -> Result<Cap<Stepped>, CostFault> {
         Cap::new(<Stepped as Small>::made(random)?, random.between(0, 4))
@@ -59,9 +53,7 @@ impl Small for Cap<Stepped> {
 }
 
 impl Small for Ceiling<Quadratic> {
-    fn word() -> &'static str {
-        "ceiling over quadratic"
-    }
+    const WORD: &'static str = "ceiling over quadratic";
 
     fn made(random: &mut Random) -> Result<Ceiling<Quadratic>, CostFault> {
         Ceiling::new(<Quadratic as Small>::made(random)?, random.between(-3, 6))
@@ -69,9 +61,7 @@ impl Small for Ceiling<Quadratic> {
 }
 
 impl Small for Cap<Ceiling<Stepped>> {
-    fn word() -> &'static str {
-        "cap over ceiling over stepped"
-    }
+    const WORD: &'static str = "cap over ceiling over stepped";
 
     fn made(random: &mut Random) -> Result<Cap<Ceiling<Stepped>>, CostFault> {
         let below = Ceiling::new(<Stepped as Small>::made(random)?, random.between(-2, 4))?;

@@ -6,6 +6,7 @@ mod compare;
 mod kinds;
 mod networks;
 mod routings;
+mod trials;
 mod tries;
 
 use anyhow::anyhow;
@@ -27,7 +28,7 @@ fn tell<C: Small>(rt: &HostRuntime) -> anyhow::Result<bool> {
         differing,
         routings,
     } = tally;
-    let word = C::word();
+    let word = C::WORD;
     println!(rt;
         "{word}: {settled} settled, {barred} barred, {unbalanced} unbalanced, {differing} differing; {routings} routings met"
     )?;
@@ -35,11 +36,14 @@ fn tell<C: Small>(rt: &HostRuntime) -> anyhow::Result<bool> {
 }
 
 fn run(rt: &HostRuntime) -> anyhow::Result<()> {
-    let plain = tell::<Stepped>(rt)? & tell::<Quadratic>(rt)?;
-    let layered = tell::<Cap<Stepped>>(rt)?
-        & tell::<Ceiling<Quadratic>>(rt)?
-        & tell::<Cap<Ceiling<Stepped>>>(rt)?;
-    if plain && layered {
+    let agree = [
+        tell::<Stepped>(rt)?,
+        tell::<Quadratic>(rt)?,
+        tell::<Cap<Stepped>>(rt)?,
+        tell::<Ceiling<Quadratic>>(rt)?,
+        tell::<Cap<Ceiling<Stepped>>>(rt)?,
+    ];
+    if agree.iter().all(|agree| *agree) {
         println!(rt; "settling and trying every routing never differ")?;
         Ok(())
     } else {
