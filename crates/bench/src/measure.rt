@@ -1,6 +1,4 @@
 // Settling one network, and what it took.
-ghost use Rattle.std.specs.Prelude.{◌<◌, ◌≤◌};
-
 use crate::kinds::Kind;
 use crate::networks::Plan;
 use anyhow::anyhow;
@@ -19,12 +17,10 @@ const ROUNDS: usize = 15;
 fn costs_of<C: Kind>(heap: Global, plan: Plan, random: &mut Random) -> anyhow::Result<Vec<C>> {
     let mut costs = Vec::new(heap);
     for arc in 0..plan.arcs {
-        let Ok(cost) = C::made(random, plan.is_wide(arc)) else {
-            return Err(anyhow!("a cost is refused"));
-        };
-        if costs.push(cost).is_err() {
-            return Err(anyhow!("there is no memory for the costs"));
-        }
+        let cost = C::made(random, plan.is_wide(arc)).map_err(|_| anyhow!("a cost is refused"))?;
+        costs
+            .push(cost)
+            .map_err(|_| anyhow!("there is no memory for the costs"))?;
     }
     Ok(costs)
 }
@@ -36,10 +32,7 @@ fn shortest<C: Cost>(rt: &HostRuntime, sheet: &Sheet, costs: &[C]) -> io::Result
         let mut book = *sheet;
         let start = Instant::now(rt)?;
         let _ = book.settle(costs);
-        let took = start.elapsed(rt)?;
-        if took < best {
-            best = took;
-        }
+        best = best.min(start.elapsed(rt)?);
     }
     Ok(best)
 }
@@ -52,8 +45,13 @@ fn tell<C: Kind>(
     sheet: &mut Sheet,
     costs: &[C],
 ) -> io::Result<()> {
-    let (kind, shape) = (C::word(), plan.word());
-    let (nodes, arcs, requests) = (plan.nodes, plan.arcs, plan.requests);
+    let Plan {
+        shape,
+        nodes,
+        arcs,
+        requests,
+    } = plan;
+    let kind = C::WORD;
     print!(rt; "{kind} {shape} {nodes} {arcs} {requests}")?;
     if timed {
         let micros = shortest(rt, sheet, costs)?.as_micros();
@@ -66,14 +64,12 @@ fn tell<C: Kind>(
 }
 
 // Drafts a network, makes its costs, and settles it.
-pub(crate) fn measure<C: Kind>(rt: &HostRuntime, timed: bool, plan: Plan) -> anyhow::Result<()>
-    requires { (1 < plan.nodes) × (plan.nodes ≤ 64) }
-{
+pub(crate) fn measure<C: Kind>(rt: &HostRuntime, timed: bool, plan: Plan) -> anyhow::Result<()> {
     let mut random = Random::new(SEED);
     let mut sheet = Sheet::blank();
-    if plan.draft(&mut random, &mut sheet).is_err() {
-        return Err(anyhow!("a draft is refused"));
-    }
+    let supplies = plan.supplies(rt.alloc(), &mut random)?;
+    plan.draft(supplies.as_slice(), &mut random, &mut sheet)
+        .map_err(|_| anyhow!("a draft is refused"))?;
     let costs = costs_of::<C>(rt.alloc(), plan, &mut random)?;
     tell(rt, timed, plan, &mut sheet, costs.as_slice())?;
     Ok(())

@@ -1,11 +1,13 @@
 // Networks of two shapes, drafted at random.
-ghost use Rattle.std.specs.Prelude.{◌≡◌, ◌<◌, ◌≤◌};
+ghost use Rattle.std.specs.Prelude.{◌≡◌, ◌<◌, ◌≤◌, length};
 
 use ledger::faults::DraftFault;
 use random::Random;
 use sheet::sheets::Sheet;
 use sheet::sheets::drafting::stages::begin;
 use sheet::sheets::drafting::steps::size;
+use std::alloc::{AllocError, Global};
+use std::fmt;
 
 // In how many shares the requests of a random network are supplied and taken.
 const SHARES: i64 = 32;
@@ -17,44 +19,50 @@ pub(crate) enum Shape {
     Chain,
 }
 
-// What a network is to have.
+// What a network is to have; it has two to 64 nodes.
 #[derive(Clone, Copy)]
 pub(crate) struct Plan {
     pub shape: Shape,
     pub nodes: usize,
     pub arcs: usize,
     pub requests: i64,
+    ghost several: { 1 < nodes },
+    ghost few: { nodes ≤ 64 },
+}
+
+impl fmt::Display for Shape {
+    fn fmt<W: fmt::Write>(&self, f: &mut fmt::Formatter<W>) -> fmt::Result {
+        f.write_str(match self {
+            Shape::Ring => "ring",
+            Shape::Chain => "chain",
+        })
+    }
+}
+
+// Adds requests to supplies in shares, each from one random node to another.
+fn spread(supplies: &mut [i64], requests: i64, random: &mut Random)
+    requires { 0 < length supplies.old }
+{
+    let share = requests / SHARES;
+    for _ in 0..SHARES {
+        let from = random.place(supplies.len());
+        let to = random.place(supplies.len());
+        supplies[from] = supplies[from].wrapping_add(share);
+        supplies[to] = supplies[to].wrapping_sub(share);
+    }
 }
 
 impl Plan {
-    pub(crate) fn ring(nodes: usize, arcs: usize, requests: i64) -> Plan
-        ensures { (result.nodes ≡ nodes) × (result.arcs ≡ arcs) }
+    // The plan of a network with two to 64 nodes.
+    pub(crate) fn new(shape: Shape, nodes: usize, arcs: usize, requests: i64) -> Plan
+        requires several { 1 < nodes }
+        requires few { nodes ≤ 64 }
     {
-        let shape = Shape::Ring;
         Plan {
             shape,
             nodes,
             arcs,
             requests,
-        }
-    }
-
-    pub(crate) fn chain(nodes: usize, arcs: usize, requests: i64) -> Plan
-        ensures { (result.nodes ≡ nodes) × (result.arcs ≡ arcs) }
-    {
-        let shape = Shape::Chain;
-        Plan {
-            shape,
-            nodes,
-            arcs,
-            requests,
-        }
-    }
-
-    pub(crate) fn word(self) -> &'static str {
-        match self.shape {
-            Shape::Ring => "ring",
-            Shape::Chain => "chain",
         }
     }
 
@@ -68,8 +76,8 @@ impl Plan {
 
     // The places of the tail and the head of an arc.
     fn ends(self, arc: usize, random: &mut Random) -> (usize, usize)
-        requires { (1 < self.nodes) × (self.nodes ≤ 64) }
-        ensures { (result.0 < self.nodes) × (result.1 < self.nodes) }
+        ensures tail { result.0 < self.nodes }
+        ensures head { result.1 < self.nodes }
     {
         match self.shape {
             Shape::Chain => (arc % (self.nodes - 1), arc % (self.nodes - 1) + 1),
@@ -82,40 +90,36 @@ impl Plan {
     }
 
     // The supplies: along a chain all requests go from end to end, and on a ring they go in shares between random nodes.
-    fn supplies(self, random: &mut Random) -> [i64; 64]
-        requires { (1 < self.nodes) × (self.nodes ≤ 64) }
-    {
-        let mut supplies = [0i64; 64];
+    pub(crate) fn supplies(
+        self,
+        heap: Global,
+        random: &mut Random,
+    ) -> Result<Vec<i64>, AllocError> {
+        let mut supplies = vec![in heap; 0i64; self.nodes]?;
         match self.shape {
             Shape::Chain => {
                 supplies[0] = self.requests;
                 supplies[self.nodes - 1] = self.requests.wrapping_neg();
             }
-            Shape::Ring => {
-                let share = self.requests / SHARES;
-                for _ in 0..SHARES {
-                    let from = random.place(self.nodes);
-                    let to = random.place(self.nodes);
-                    supplies[from] = supplies[from].wrapping_add(share);
-                    supplies[to] = supplies[to].wrapping_sub(share);
-                }
-            }
+            Shape::Ring => spread(supplies.as_mut_slice(), self.requests, random),
         }
-        supplies
+        Ok(supplies)
     }
 
-    // Drafts the network on a sheet.
-    pub(crate) fn draft(self, random: &mut Random, sheet: &mut Sheet) -> Result<(), DraftFault>
-        requires { (1 < self.nodes) × (self.nodes ≤ 64) }
-    {
-        let supplies = self.supplies(random);
+    // Drafts the network with supplies on a sheet.
+    pub(crate) fn draft(
+        self,
+        supplies: &[i64],
+        random: &mut Random,
+        sheet: &mut Sheet,
+    ) -> Result<(), DraftFault> {
         let mut feeding = begin(sheet, size(self.nodes as i64)?);
-        for v in 0..self.nodes {
-            feeding.feed(supplies[v])?;
+        for supply in supplies {
+            feeding.feed(*supply)?;
         }
         let mut laying = feeding.turn();
-        for a in 0..self.arcs {
-            let (tail, head) = self.ends(a, random);
+        for arc in 0..self.arcs {
+            let (tail, head) = self.ends(arc, random);
             laying.lay(tail as i64 + 1, head as i64 + 1)?;
         }
         laying.open();

@@ -1,6 +1,7 @@
--- Both arrays keep their length.
-use Rattle.std.proofs.Common.{◌≡◌, length}
+-- Each piece so far has its width and its slope.
+use Rattle.std.proofs.Common.{◌≡◌}
+use Rattle.arrayvec.specs.ArrayVec.{array_vec_len}
 use Rattle.bench.proofs.kinds.SteppedKind.made.Given as goal
 
 abbrev pub invariant-loop-k : goal.invariant-loop-k
-invariant-loop-k l = (length l.widths ≡ 8) × (length l.slopes ≡ 8)
+invariant-loop-k l = (array_vec_len l.widths ≡ l.k) × (array_vec_len l.slopes ≡ l.k)
