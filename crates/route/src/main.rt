@@ -7,25 +7,21 @@ mod tariff;
 use anyhow::anyhow;
 use example::{draft, tariffs};
 use sheet::sheets::Sheet;
-use tariff::{print_charge, print_floor, print_table};
+use tariff::{print_answer, print_table};
 
 fn run(rt: &HostRuntime) -> anyhow::Result<()> {
     let mut sheet = Sheet::blank();
-    if draft(&mut sheet).is_err() {
-        return Err(anyhow!("the draft is refused"));
-    }
-    let Ok(costs) = tariffs() else {
-        return Err(anyhow!("a cost is refused"));
-    };
+    draft(&mut sheet).map_err(|_| anyhow!("the draft is refused"))?;
+    let costs = tariffs().map_err(|_| anyhow!("a cost is refused"))?;
     for (a, cost) in costs.iter().enumerate() {
         println!(rt; "arc {}", a + 1)?;
         print_table(rt, cost)?;
     }
     for loads in [[2, 2, 2], [4, 4, 0], [0, 0, 4]].iter() {
-        print_charge(rt, &sheet, &costs, loads)?;
+        print_answer(rt, "charge", loads, sheet.charge(&costs, loads))?;
     }
     for prices in [[3, 2, 0], [0, 0, 0]].iter() {
-        print_floor(rt, &sheet, &costs, prices)?;
+        print_answer(rt, "floor", prices, sheet.floor(&costs, prices))?;
     }
     if let Ok(true) = sheet.is_cheapest(&costs, &[2, 2, 2], &[3, 2, 0]) {
         println!(rt; "the charge of 2 2 2 equals the floor of 3 2 0, so 2 2 2 is cheapest")?;
