@@ -1,17 +1,21 @@
 // What the program answers to a record.
+ghost use Rattle.std.specs.Iterator.{IsFinite};
+
 use chain::calls::Call;
 use chain::replaying::replay;
 use cost::refusals::{Layer, Refusal};
-use cost::written::Recorded;
+use cost::written::{Recorded, Written};
+use ledger::faults::SheetFault;
+use ledger::settling::Amounts;
 use quadratic_cost::quadratic::Quadratic;
 use record::faults::{RecordFault, Spot};
 use record::reading::read;
 use sheet::sheets::{MOST_ARCS, Sheet};
-use std::alloc::{AllocError, Global};
+use std::fmt;
 use stepped_cost::stepped::{MOST_PIECES, Stepped};
 
 // The longest record that is read.
-const MOST_BYTES: usize = 65_536;
+pub(crate) const MOST_BYTES: usize = 65_536;
 
 // Where the letter stands in a record: behind the word `net` and a space.
 const LETTER_AT: usize = 4;
@@ -28,6 +32,16 @@ const NO_STEPS: Stepped = Stepped {
 
 const NO_SQUARE: Quadratic = Quadratic { a: 0, b: 0, c: 0 };
 
+// The answer to a record: what its sheet comes to, or why it is refused.
+#[derive(Drop)]
+pub(crate) enum Answer {
+    // the sheet has the loads
+    Settled(Amounts, Sheet),
+    // the sheet has the marks of a set that bars every routing
+    Barred(Refusal, Sheet),
+    Refused(Refusal, Spot),
+}
+
 fn word_of(layer: Layer) -> &'static str {
     match layer {
         Layer::Cost => "cost",
@@ -37,101 +51,107 @@ fn word_of(layer: Layer) -> &'static str {
     }
 }
 
-// The line of a refusal.
-fn refused(heap: Global, refusal: Refusal, spot: Spot) -> Result<String, AllocError> {
-    let number = refusal.number;
-    let place = refusal.place;
-    let layer = word_of(refusal.layer);
-    let line = spot.line;
-    let field = spot.field;
-    format!(in heap; "refused {number} {place} {layer} {line} {field}\n")
+// Writes the line of a refusal.
+fn write_refused<W: fmt::Write>(
+    f: &mut fmt::Formatter<W>,
+    refusal: Refusal,
+    spot: Spot,
+) -> fmt::Result {
+    let Refusal {
+        number,
+        place,
+        layer,
+    } = refusal;
+    let word = word_of(layer);
+    let Spot { line, field } = spot;
+    writeln!(f, "refused {number} {place} {word} {line} {field}")
 }
 
-// The line of the loads, by arc.
-fn write_loads(heap: Global, sheet: &Sheet, out: &mut String) -> Result<(), AllocError> {
-    out.push_str("load")?;
-    let arcs = i64::try_from(sheet.arc_count()).unwrap_or(0);
-    for arc in 0..arcs {
-        if let Ok(load) = sheet.load_of(arc + 1) {
-            out.push_str(format!(in heap; " {load}")?.as_str())?;
-        }
+// Writes a line of a word and numbers.
+fn write_numbers<W: fmt::Write, I: Iterator<Item = i64> + Drop>(
+    f: &mut fmt::Formatter<W>,
+    word: &str,
+    numbers: I,
+) -> fmt::Result
+    requires can { I.can_next numbers }
+    requires finite { IsFinite (I.remaining numbers) }
+{
+    f.write_str(word)?;
+    for number in numbers {
+        write!(f, " {number}")?;
     }
-    out.push_str("\n")
+    f.write_str("\n")
 }
 
-// The line of the marked nodes.
-fn write_set(heap: Global, sheet: &Sheet, out: &mut String) -> Result<(), AllocError> {
-    out.push_str("set")?;
-    let nodes = i64::try_from(sheet.node_count()).unwrap_or(0);
-    for v in 0..nodes {
-        let node = v + 1;
-        if let Ok(true) = sheet.mark_of(node) {
-            out.push_str(format!(in heap; " {node}")?.as_str())?;
-        }
-    }
-    out.push_str("\n")
+// Writes the line of the loads, by arc.
+fn write_loads<W: fmt::Write>(f: &mut fmt::Formatter<W>, sheet: &Sheet) -> fmt::Result {
+    let arcs = (1i64..).take(sheet.arc_count());
+    write_numbers(f, "load", arcs.filter_map(|arc| sheet.load_of(arc).ok()))
 }
 
-// Makes the calls, of which settle is the last, and tells charge, floor and loads, or the refusal and the set that bars every
-// routing.
-fn settled<W: Recorded + Copy>(
-    heap: Global,
-    sheet: &mut Sheet,
-    costs: &mut [W],
-    calls: &[Call<W>],
-) -> Result<String, AllocError> {
-    match replay(sheet, costs, calls).outlook {
-        Ok(amounts) => {
-            let charge = amounts.charge;
-            let floor = amounts.floor;
-            let mut out = format!(in heap; "settled {charge} {floor}\n")?;
-            write_loads(heap, sheet, &mut out)?;
-            Ok(out)
-        }
-        Err(fault) => {
-            let refusal = fault.refusal();
-            let mut out = refused(heap, refusal, NO_SPOT)?;
-            if refusal.number == 11 {
-                write_set(heap, sheet, &mut out)?;
+// Writes the line of the marked nodes.
+fn write_set<W: fmt::Write>(f: &mut fmt::Formatter<W>, sheet: &Sheet) -> fmt::Result {
+    let nodes = (1i64..).take(sheet.node_count());
+    write_numbers(
+        f,
+        "set",
+        nodes.filter(|node| sheet.mark_of(*node).unwrap_or(false)),
+    )
+}
+
+impl fmt::Display for Answer {
+    fn fmt<W: fmt::Write>(&self, f: &mut fmt::Formatter<W>) -> fmt::Result {
+        match self {
+            Answer::Settled(amounts, sheet) => {
+                let Amounts { charge, floor } = *amounts;
+                writeln!(f, "settled {charge} {floor}")?;
+                write_loads(f, sheet)
             }
-            Ok(out)
+            Answer::Barred(refusal, sheet) => {
+                write_refused(f, *refusal, NO_SPOT)?;
+                write_set(f, sheet)
+            }
+            Answer::Refused(refusal, spot) => write_refused(f, *refusal, *spot),
         }
+    }
+}
+
+// The answer of a sheet after the calls, of which settle is the last.
+fn settled<W: Recorded + Copy>(sheet: &mut Sheet, costs: &mut [W], calls: &[Call<W>]) -> Answer {
+    match replay(sheet, costs, calls).outlook {
+        Ok(amounts) => Answer::Settled(amounts, *sheet),
+        Err(SheetFault::Barred(count)) => {
+            Answer::Barred(SheetFault::Barred(count).refusal(), *sheet)
+        }
+        Err(fault) => Answer::Refused(fault.refusal(), NO_SPOT),
     }
 }
 
 // The answer to a record of one kind of cost, which is read into the places, after the calls on its book.
-fn answer_with<W: Recorded + Copy>(
-    heap: Global,
-    text: &[u8],
-    places: &mut [W],
-    calls: &[Call<W>],
-) -> Result<String, AllocError> {
+fn answer_with<W: Recorded + Copy>(text: &[u8], places: &mut [W], calls: &[Call<W>]) -> Answer {
     let mut sheet = Sheet::blank();
     match read(text, &mut sheet, places) {
         Ok(()) => {
             let arcs = sheet.arc_count().min(places.len());
-            settled(heap, &mut sheet, &mut places[0..arcs], calls)
+            settled(&mut sheet, &mut places[0..arcs], calls)
         }
-        Err(fault) => refused(heap, fault.refusal(), fault.spot()),
+        Err(fault) => Answer::Refused(fault.refusal(), fault.spot()),
     }
 }
 
 // The letter of a record, which says the kind of its costs.
-fn letter_of(text: &[u8]) -> char {
-    match text.get(LETTER_AT) {
-        Some(letter) => char::from(*letter),
-        None => ' ',
-    }
+fn letter_of(text: &[u8]) -> Option<char> {
+    text.get(LETTER_AT).map(|letter| char::from(*letter))
 }
 
 // The answer to a record, whose kind of cost its letter tells.
-pub(crate) fn answer(heap: Global, text: &[u8]) -> Result<String, AllocError> {
+pub(crate) fn answer_to(text: &[u8]) -> Answer {
     if text.len() > MOST_BYTES {
         let fault = RecordFault::Form(MOST_BYTES);
-        return refused(heap, fault.refusal(), fault.spot());
-    }
-    match letter_of(text) {
-        'Q' => answer_with(heap, text, &mut [NO_SQUARE; MOST_ARCS], &[Call::Settle]),
-        _ => answer_with(heap, text, &mut [NO_STEPS; MOST_ARCS], &[Call::Settle]),
+        Answer::Refused(fault.refusal(), fault.spot())
+    } else if letter_of(text) == Some(Quadratic::LETTER) {
+        answer_with(text, &mut [NO_SQUARE; MOST_ARCS], &[Call::Settle])
+    } else {
+        answer_with(text, &mut [NO_STEPS; MOST_ARCS], &[Call::Settle])
     }
 }

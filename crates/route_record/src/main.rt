@@ -6,14 +6,13 @@ mod input;
 #[cfg(test)]
 mod tests;
 
-use answers::answer;
-use input::{ROOM, read_input};
+use answers::{MOST_BYTES, answer_to};
+use input::read_input;
 
 fn run(rt: &HostRuntime) -> anyhow::Result<()> {
-    let mut buffer = [0u8; ROOM];
-    let length = read_input(rt, &mut buffer)?;
-    let text = answer(rt.alloc(), &buffer[0..length])?;
-    rt.print(text.as_str())?;
+    // one byte more than the longest record, so that a longer one shows
+    let text = read_input(rt, MOST_BYTES as u64 + 1)?;
+    rt.print(answer_to(text.as_slice()))?;
     Ok(())
 }
 

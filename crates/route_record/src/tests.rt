@@ -1,5 +1,5 @@
 // What the program answers to a few records.
-use crate::answers::answer;
+use crate::answers::answer_to;
 use std::test::Fail;
 
 #[test]
@@ -36,7 +36,22 @@ fn answers(rt: HostRuntime) -> Result<(), Fail> {
         ),
     ];
     for (text, expected) in cases.iter().copied() {
-        let given = answer(rt.alloc(), text.as_bytes())?;
+        let given = answer_to(text.as_bytes()).to_string(rt.alloc())?;
+        assert_eq!(rt; given.as_str(), expected);
+    }
+    Ok(())
+}
+
+// Of a record and what follows it the first byte that is too much is told; of a text that is too long, the end of what is read.
+#[test]
+fn long_texts(rt: HostRuntime) -> Result<(), Fail> {
+    let mut text = [b' '; 65_537];
+    text[0..22].copy_from_slice(b"net S 0 0\nsup\nfrom\nto\n");
+    for (length, expected) in [
+        (65_536, "refused 15 22 record 0 0\n"),
+        (65_537, "refused 15 65536 record 0 0\n"),
+    ] {
+        let given = answer_to(&text[0..length]).to_string(rt.alloc())?;
         assert_eq!(rt; given.as_str(), expected);
     }
     Ok(())
