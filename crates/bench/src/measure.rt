@@ -3,6 +3,7 @@ use crate::kinds::Kind;
 use crate::networks::Plan;
 use anyhow::anyhow;
 use cost::costs::Cost;
+use cost::refusals::Refusal;
 use random::Random;
 use sheet::sheets::Sheet;
 use std::alloc::Global;
@@ -59,7 +60,7 @@ fn tell<C: Kind>(
     }
     match sheet.settle(costs) {
         Ok(amounts) => println!(rt; " charge {}", amounts.charge),
-        Err(fault) => println!(rt; " refused {}", fault.refusal().number),
+        Err(fault) => println!(rt; " refused {}", Refusal::from(fault).number),
     }
 }
 

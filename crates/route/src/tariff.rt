@@ -1,5 +1,6 @@
 // What is printed of a tariff.
 use cost::costs::{Cost, amount_at};
+use cost::refusals::Refusal;
 use sheet::faults::SheetFault;
 use std::io;
 
@@ -27,7 +28,7 @@ pub(crate) fn print_answer(
     match answer {
         Ok(amount) => println!(rt; "{word} of {x} {y} {z} is {amount}"),
         Err(fault) => {
-            let number = fault.refusal().number;
+            let number = Refusal::from(fault).number;
             println!(rt; "{word} of {x} {y} {z} refused {number}")
         }
     }
