@@ -3,7 +3,7 @@ ghost use Rattle.std.specs.Iterator.{IsFinite};
 
 use chain::calls::Call;
 use chain::replaying::replay;
-use cost::refusals::{Layer, Refusal};
+use cost::refusals::Refusal;
 use cost::written::{Recorded, Written};
 use ledger::faults::SheetFault;
 use ledger::settling::Amounts;
@@ -12,7 +12,7 @@ use record::faults::{RecordFault, Spot};
 use record::reading::read;
 use sheet::sheets::{MOST_ARCS, Sheet};
 use std::fmt;
-use stepped_cost::stepped::{MOST_PIECES, Stepped};
+use stepped_cost::stepped::Stepped;
 
 // The longest record that is read.
 pub(crate) const MOST_BYTES: usize = 65_536;
@@ -21,16 +21,6 @@ pub(crate) const MOST_BYTES: usize = 65_536;
 const LETTER_AT: usize = 4;
 
 const NO_SPOT: Spot = Spot { line: 0, field: 0 };
-
-const NO_STEPS: Stepped = Stepped {
-    first: 0,
-    opening: 0,
-    count: 0,
-    widths: [0; MOST_PIECES],
-    slopes: [0; MOST_PIECES],
-};
-
-const NO_SQUARE: Quadratic = Quadratic { a: 0, b: 0, c: 0 };
 
 // The answer to a record: what its sheet comes to, or why it is refused.
 #[derive(Drop)]
@@ -42,29 +32,14 @@ pub(crate) enum Answer {
     Refused(Refusal, Spot),
 }
 
-fn word_of(layer: Layer) -> &'static str {
-    match layer {
-        Layer::Cost => "cost",
-        Layer::Draft => "draft",
-        Layer::Sheet => "sheet",
-        Layer::Record => "record",
-    }
-}
-
 // Writes the line of a refusal.
 fn write_refused<W: fmt::Write>(
     f: &mut fmt::Formatter<W>,
     refusal: Refusal,
     spot: Spot,
 ) -> fmt::Result {
-    let Refusal {
-        number,
-        place,
-        layer,
-    } = refusal;
-    let word = word_of(layer);
     let Spot { line, field } = spot;
-    writeln!(f, "refused {number} {place} {word} {line} {field}")
+    writeln!(f, "refused {refusal} {line} {field}")
 }
 
 // Writes a line of a word and numbers.
@@ -100,6 +75,7 @@ fn write_set<W: fmt::Write>(f: &mut fmt::Formatter<W>, sheet: &Sheet) -> fmt::Re
 }
 
 impl fmt::Display for Answer {
+    // Writes the answer in one line or two.
     fn fmt<W: fmt::Write>(&self, f: &mut fmt::Formatter<W>) -> fmt::Result {
         match self {
             Answer::Settled(amounts, sheet) => {
@@ -116,14 +92,19 @@ impl fmt::Display for Answer {
     }
 }
 
+impl From<RecordFault> for Answer {
+    // The refusal of a record, with the spot that it names.
+    fn from(fault: RecordFault) -> Answer {
+        Answer::Refused(fault.refusal(), fault.spot())
+    }
+}
+
 // The answer of a sheet after the calls, of which settle is the last.
 fn settled<W: Recorded + Copy>(sheet: &mut Sheet, costs: &mut [W], calls: &[Call<W>]) -> Answer {
     match replay(sheet, costs, calls).outlook {
         Ok(amounts) => Answer::Settled(amounts, *sheet),
-        Err(SheetFault::Barred(count)) => {
-            Answer::Barred(SheetFault::Barred(count).refusal(), *sheet)
-        }
-        Err(fault) => Answer::Refused(fault.refusal(), NO_SPOT),
+        Err(fault @ SheetFault::Barred(_)) => Answer::Barred(Refusal::from(fault), *sheet),
+        Err(fault) => Answer::Refused(Refusal::from(fault), NO_SPOT),
     }
 }
 
@@ -135,7 +116,7 @@ fn answer_with<W: Recorded + Copy>(text: &[u8], places: &mut [W], calls: &[Call<
             let arcs = sheet.arc_count().min(places.len());
             settled(&mut sheet, &mut places[0..arcs], calls)
         }
-        Err(fault) => Answer::Refused(fault.refusal(), fault.spot()),
+        Err(fault) => Answer::from(fault),
     }
 }
 
@@ -147,11 +128,14 @@ fn letter_of(text: &[u8]) -> Option<char> {
 // The answer to a record, whose kind of cost its letter tells.
 pub(crate) fn answer_to(text: &[u8]) -> Answer {
     if text.len() > MOST_BYTES {
-        let fault = RecordFault::Form(MOST_BYTES);
-        Answer::Refused(fault.refusal(), fault.spot())
+        Answer::from(RecordFault::Form(MOST_BYTES))
     } else if letter_of(text) == Some(Quadratic::LETTER) {
-        answer_with(text, &mut [NO_SQUARE; MOST_ARCS], &[Call::Settle])
+        answer_with(
+            text,
+            &mut [Quadratic::default(); MOST_ARCS],
+            &[Call::Settle],
+        )
     } else {
-        answer_with(text, &mut [NO_STEPS; MOST_ARCS], &[Call::Settle])
+        answer_with(text, &mut [Stepped::default(); MOST_ARCS], &[Call::Settle])
     }
 }
