@@ -17,6 +17,7 @@ pub struct Random {
 }
 
 impl Random {
+    // A source that begins with a seed.
     pub fn new(seed: u64) -> Random
         ensures { result.state ≡ seed }
     {
