@@ -1,8 +1,9 @@
 -- The lines of costs, one after another.
-use Rattle.std.proofs.Common.{◌≡◌, ℕ, zero, suc, ◌+◌, ◌<◌, ◌≤◌, List, [], ◌∷◌, ◌++◌, map, length, get_or, take, ℤ, codes, sym, ap, ◌∙◌, append_assoc, append-nil, arith}
+use Rattle.std.proofs.Common.{◌≡◌, ℕ, zero, suc, ◌+◌, ◌<◌, ◌≤◌, List, [], ◌∷◌, ◌++◌, map, length, get_or, take, ℤ, codes, sym, ap, ◌∙◌, subst, append_assoc, append-nil, arith}
 use Rattle.std.proofs.lemmas.List.{length-append, take_all}
-use Rattle.text.specs.Writing.{written}
-use Rattle.text.proofs.Overwriting.{written_then}
+use Rattle.text.specs.Writing.{HasRoom, Appends}
+use Rattle.text.specs.declared.writing.Writer.{Writer}
+use Rattle.text.proofs.Overwriting.{room_then, appends_then}
 use Rattle.record_form.specs.Lines.{line, row_lines}
 
 module _ {C : Type 0} (row : C → List ℤ) where
@@ -35,10 +36,13 @@ module _ {C : Type 0} (row : C → List ℤ) where
     pub length_more : length (lines (take (i + 1) cs)) ≡ length (lines (take i cs)) + length (one x)
     length_more = ap length (lines_more cs i x within is) ∙ length-append (lines (take i cs)) (one x)
 
-    pub room_for : length (lines (take i cs)) + length (one x) ≤ length (lines cs)
-    room_for = omega (arith, length_more, lines_le cs (i + 1))
+    module _ {w u : Writer} (room : HasRoom w (lines cs)) (so_far : Appends (lines (take i cs)) w u) where
+      room_so_far : HasRoom w (lines (take i cs) ++ one x)
+      room_so_far = omega (arith, room, ap length (lines_more cs i x within is), lines_le cs (i + 1))
 
-    pub written_one : (into : List ℕ) (at : ℕ) {first last : List ℕ} {next : ℕ} → at ≤ length into → first ≡ written into at (lines (take i cs)) → next ≡ at + length (lines (take i cs))
-        → last ≡ written first next (one x) → last ≡ written into at (lines (take (i + 1) cs))
-    written_one into at room first next last =
-        written_then into at (lines (take i cs)) (one x) room first next last ∙ ap (written into at) (sym (lines_more cs i x within is))
+      pub room_more : HasRoom u (one x)
+      room_more = room_then (lines (take i cs)) (one x) room_so_far so_far
+
+      pub appends_more : {v : Writer} → Appends (one x) u v → Appends (lines (take (i + 1) cs)) w v
+      appends_more {v} last =
+          subst (λ (text : List ℕ). Appends text w v) (sym (lines_more cs i x within is)) (appends_then (lines (take i cs)) (one x) room_so_far so_far last)

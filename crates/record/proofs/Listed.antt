@@ -1,12 +1,10 @@
 -- Lists of numbers that are gathered one by one, and lines that are written one after another.
-use Rattle.std.proofs.Common.{◌≡◌, ℕ, ◌+◌, ◌<◌, List, [], ◌∷◌, ◌++◌, map, length, get_or, take, set, ℤ, pos, sym, ap, ◌∙◌, append_assoc, arith}
+use Rattle.std.proofs.Common.{◌≡◌, ℕ, ◌+◌, ◌<◌, List, [], ◌∷◌, ◌++◌, map, length, get_or, take, set, ℤ, pos, sym, ap, ◌∙◌, arith}
 use Rattle.std.proofs.lemmas.List.{get_or-map, get_or-take, length-append, length-map, length-take, take_all, take_more, take_more_set}
 use Rattle.network.specs.Records.{no_arc}
 use Rattle.network.specs.declared.records.Arc.{Arc}
 use Rattle.sheet.specs.Sheets.{book_of}
 use Rattle.sheet.specs.declared.sheets.Sheet.{Sheet}
-use Rattle.text.specs.Writing.{written}
-use Rattle.text.proofs.Overwriting.{written_then}
 
 module _ {X : Type 0} (f : X → ℤ) (items : List X) (xs : List ℤ) (i : ℕ) where
   pub listed_more : (d : X) (x : ℤ) → i < length xs → i < length items → x ≡ f (get_or items i d) → take i xs ≡ take i (map f items) → take (i + 1) (set xs i x) ≡ take (i + 1) (map f items)
@@ -22,14 +20,6 @@ module _ {X : Type 0} (f : X → ℤ) (items : List X) (xs : List ℤ) (i : ℕ)
 module _ (a b c d : List ℕ) where
   pub four_long : length (a ++ (b ++ (c ++ d))) ≡ length a + length b + length c + length d
   four_long = omega (arith, length-append a (b ++ (c ++ d)), length-append b (c ++ d), length-append c d)
-
-  pub four_written : (into : List ℕ) {i₁ i₂ i₃ i₄ : List ℕ} {n₁ n₂ n₃ : ℕ} → i₁ ≡ written into 0 a → n₁ ≡ 0 + length a → i₂ ≡ written i₁ n₁ b → n₂ ≡ n₁ + length b
-      → i₃ ≡ written i₂ n₂ c → n₃ ≡ n₂ + length c → i₄ ≡ written i₃ n₃ d → i₄ ≡ written into 0 (a ++ (b ++ (c ++ d)))
-  four_written into e₁ m₁ e₂ m₂ e₃ m₃ e₄ =
-      let two = written_then into 0 a b (omega arith) e₁ m₁ e₂ in
-      let three = written_then into 0 (a ++ b) c (omega arith) two (omega (arith, length-append a b)) e₃ in
-      let four = written_then into 0 ((a ++ b) ++ c) d (omega arith) three (omega (arith, length-append a b, length-append (a ++ b) c)) e₄ in
-      four ∙ ap (written into 0) (append_assoc (a ++ b) c d ∙ append_assoc a b (c ++ d))
 
 -- the ends of an arc of a sheet are nodes of the sheet
 pub ends_within : (s : Sheet) (a : ℕ) → a < length (book_of s).arcs → ((get_or (book_of s).arcs a no_arc).tail < 64) × ((get_or (book_of s).arcs a no_arc).head < 64)

@@ -5,6 +5,7 @@ ghost use Rattle.record.specs.declared.faults.RecordFault.TheVariants.{Form};
 
 use cost::refusals::{CostFault, Layer, Refusal};
 use ledger::faults::DraftFault;
+use text::cursor::Malformed;
 
 // A line of a text, from 1, and a field of it, from 1; both are 0 where a refusal names neither.
 #[derive(Clone, Copy, Debug, PartialEq, Eq)]
@@ -33,11 +34,11 @@ pub enum WritingFault {
     Space(usize),
 }
 
-impl From<usize> for RecordFault {
-    ghost from_gives = { λ offset r. r ≡ Form offset };
+impl From<Malformed> for RecordFault {
+    ghost from_gives = { λ malformed r. r ≡ Form malformed.offset };
 
-    fn from(offset: usize) -> RecordFault {
-        RecordFault::Form(offset)
+    fn from(malformed: Malformed) -> RecordFault {
+        RecordFault::Form(malformed.offset)
     }
 }
 

@@ -2,13 +2,14 @@
 ghost use Rattle.std.specs.Prelude.{◌≡◌, ◌+◌, ◌<◌, ◌≤◌, length, take, pos, slice_index_or};
 ghost use Rattle.network.specs.Records.{no_arc, no_node};
 ghost use Rattle.sheet.specs.Sheets.{book_of};
-ghost use Rattle.text.specs.Writing.{written};
+ghost use Rattle.text.specs.Writing.{HasRoom, Appends};
 ghost use Rattle.record.specs.Outlines.{outline_text};
 ghost use Rattle.record.specs.Texts.{heads_of, supplies_of, tails_of};
 
 use record_form::lines;
 use record_form::setting::{line_length, write_line};
 use sheet::sheets::{MOST_ARCS, MOST_NODES, Sheet};
+use text::writing::Writer;
 
 // The first four lines: how the first line starts, its counts, and the lists of the other three.
 #[derive(Clone, Copy)]
@@ -99,15 +100,14 @@ impl Outline<'_> {
         first + second + third + fourth
     }
 
-    // Writes the first four lines at the start of bytes that are lent.
-    pub(crate) fn write(&self, into: &mut [u8]) -> usize
-        requires { length (outline_text self.now) ≤ length into.old }
-        ensures next { result ≡ length (outline_text self.now) }
-        ensures into { into.new ≡ written into.old 0 (outline_text self.now) }
+    // Writes the first four lines; the caller sees that there is room.
+    pub(crate) fn write(&self, writer: &mut Writer<'_>)
+        requires { HasRoom writer.old (outline_text self.now) }
+        ensures { Appends (outline_text self.now) writer.old writer.new }
     {
-        let next = write_line(into, 0, self.start, self.counts);
-        let next = write_line(into, next, lines::SUPPLIES, self.supplies);
-        let next = write_line(into, next, lines::TAILS, self.tails);
-        write_line(into, next, lines::HEADS, self.heads)
+        write_line(writer, self.start, self.counts);
+        write_line(writer, lines::SUPPLIES, self.supplies);
+        write_line(writer, lines::TAILS, self.tails);
+        write_line(writer, lines::HEADS, self.heads);
     }
 }

@@ -1,9 +1,9 @@
 // Writing a record.
-ghost use Rattle.std.specs.Prelude.{◌≡◌, ◌+◌, ◌*◌, ◌≤◌, ◌++◌, map, length, take, IfOk, codes};
+ghost use Rattle.std.specs.Prelude.{◌≡◌, ◌*◌, ◌≤◌, ◌++◌, map, length, take, IfOk, codes};
 ghost use Rattle.cost.specs.Places.{kept_or, unless};
 ghost use Rattle.record_form.specs.Lines.{line, row_lines};
 ghost use Rattle.sheet.specs.Sheets.{book_of};
-ghost use Rattle.text.specs.Writing.{written};
+ghost use Rattle.text.specs.Writing.{HasRoom, Appends, written};
 ghost use Rattle.record.specs.Outcomes.{Writes};
 ghost use Rattle.record.specs.Outlines.{outline_text};
 ghost use Rattle.record.specs.Texts.{no_room, record_text};
@@ -15,6 +15,7 @@ use cost::written::Recorded;
 use record_form::lines::COST;
 use record_form::setting::{line_length, write_line};
 use sheet::sheets::Sheet;
+use text::writing::Writer;
 
 // How long the lines of the costs are.
 fn rows_length<W: Recorded>(costs: &[W]) -> usize
@@ -30,27 +31,23 @@ fn rows_length<W: Recorded>(costs: &[W]) -> usize
     total
 }
 
-// Writes the line of one cost.
-fn write_row<W: Recorded>(into: &mut [u8], at: usize, cost: &W) -> usize
-    requires { at + length (line (codes "c") (W.Written.row cost.now)) ≤ length into.old }
-    ensures next { result ≡ at + length (line (codes "c") (W.Written.row cost.now)) }
-    ensures into { into.new ≡ written into.old at (line (codes "c") (W.Written.row cost.now)) }
+// Writes the line of one cost; the caller sees that there is room.
+fn write_row<W: Recorded>(writer: &mut Writer<'_>, cost: &W)
+    requires { HasRoom writer.old (line (codes "c") (W.Written.row cost.now)) }
+    ensures { Appends (line (codes "c") (W.Written.row cost.now)) writer.old writer.new }
 {
     let row = cost.row();
-    write_line(into, at, COST, row.as_slice())
+    write_line(writer, COST, row.as_slice());
 }
 
-// Writes the lines of the costs.
-fn write_rows<W: Recorded>(into: &mut [u8], at: usize, costs: &[W]) -> usize
-    requires { at + length (row_lines (map W.Written.row costs.now)) ≤ length into.old }
-    ensures next { result ≡ at + length (row_lines (map W.Written.row costs.now)) }
-    ensures into { into.new ≡ written into.old at (row_lines (map W.Written.row costs.now)) }
+// Writes the lines of the costs; the caller sees that there is room.
+fn write_rows<W: Recorded>(writer: &mut Writer<'_>, costs: &[W])
+    requires { HasRoom writer.old (row_lines (map W.Written.row costs.now)) }
+    ensures { Appends (row_lines (map W.Written.row costs.now)) writer.old writer.new }
 {
-    let mut next = at;
     for cost in costs {
-        next = write_row(into, next, cost);
+        write_row(writer, cost);
     }
-    next
 }
 
 // Writes an outline and the lines of the costs, if there is room for all of it.
@@ -72,8 +69,10 @@ fn write_whole<W: Recorded>(
     if bytes.len() < needed {
         return Err(WritingFault::Space(needed));
     }
-    let next = outline.write(bytes);
-    Ok(write_rows(bytes, next, costs))
+    let mut writer = Writer::new(bytes);
+    outline.write(&mut writer);
+    write_rows(&mut writer, costs);
+    Ok(writer.at)
 }
 
 // Writes the book of a sheet with its costs into bytes that are lent, and answers how long the text is. What is written

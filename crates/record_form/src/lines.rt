@@ -7,7 +7,7 @@ ghost use Rattle.record_form.specs.Answers.{as_numbers};
 
 use cost::numbers::Limits;
 use cost::written::{Recorded, Row};
-use text::cursor::Cursor;
+use text::cursor::{Cursor, Malformed};
 
 // The words that begin the lines.
 pub const NET: &[u8] = b"net";
@@ -35,7 +35,7 @@ pub struct Counts {
 }
 
 // A space, and a number from 0 to `most`.
-fn count(cursor: &mut Cursor<'_>, most: i64) -> Result<i64, usize>
+fn count(cursor: &mut Cursor<'_>, most: i64) -> Result<i64, Malformed>
     ensures step { Makes (λ text at. count_at text at most) cursor.old cursor.new result }
     ensures within { IfOk result (Between (pos 0) most) }
 {
@@ -45,14 +45,14 @@ fn count(cursor: &mut Cursor<'_>, most: i64) -> Result<i64, usize>
     let number = ahead.number()?;
     let limits = Limits { low: 0, high: most };
     if !limits.contain(number) {
-        return Err(first);
+        return Err(Malformed { offset: first });
     }
     cursor.at = ahead.at;
     Ok(number)
 }
 
 // The first line: the word `net`, the letter of the kind of cost, the count of nodes and the count of arcs.
-pub fn first_line(cursor: &mut Cursor<'_>, letter: char) -> Result<Counts, usize>
+pub fn first_line(cursor: &mut Cursor<'_>, letter: char) -> Result<Counts, Malformed>
     ensures step { Makes (λ text at. first_line_at text at letter) cursor.old cursor.new result }
     ensures nodes { IfOk result (λ counts. Between (pos 0) (pos 64) counts.nodes) }
     ensures arcs { IfOk result (λ counts. Between (pos 0) (pos 256) counts.arcs) }
@@ -69,7 +69,7 @@ pub fn first_line(cursor: &mut Cursor<'_>, letter: char) -> Result<Counts, usize
 }
 
 // A line of a word and as many numbers as the list is long, which are put there.
-pub fn list(cursor: &mut Cursor<'_>, word: &[u8], into: &mut [i64]) -> Result<(), usize>
+pub fn list(cursor: &mut Cursor<'_>, word: &[u8], into: &mut [i64]) -> Result<(), Malformed>
     ensures { Makes (λ text at. list_at text at word.now (length into.old)) cursor.old cursor.new (holding into.new result) }
 {
     let mut ahead = *cursor;
@@ -81,7 +81,7 @@ pub fn list(cursor: &mut Cursor<'_>, word: &[u8], into: &mut [i64]) -> Result<()
 }
 
 // The rest of a row's line after its first number; as many numbers follow as the list is long.
-fn row_end(cursor: &mut Cursor<'_>, first: i64, further: &mut [i64]) -> Result<Row, usize>
+fn row_end(cursor: &mut Cursor<'_>, first: i64, further: &mut [i64]) -> Result<Row, Malformed>
     requires { length further.old ≤ 18 }
     ensures { Makes (λ text at. row_end_at text at first (length further.old)) cursor.old cursor.new (as_numbers result) }
 {
@@ -96,7 +96,7 @@ fn row_end(cursor: &mut Cursor<'_>, first: i64, further: &mut [i64]) -> Result<R
 }
 
 // A line of the word `c` and a row, which has as many numbers as the first of them tells.
-pub fn row<W: Recorded>(cursor: &mut Cursor<'_>) -> Result<Row, usize>
+pub fn row<W: Recorded>(cursor: &mut Cursor<'_>) -> Result<Row, Malformed>
     ensures { Makes (λ text at. row_at text at W.Written.long) cursor.old cursor.new (as_numbers result) }
 {
     let mut ahead = *cursor;
@@ -105,7 +105,7 @@ pub fn row<W: Recorded>(cursor: &mut Cursor<'_>) -> Result<Row, usize>
     let start = ahead.at;
     let first = ahead.number()?;
     let Some(count) = W::row_length(first) else {
-        return Err(start);
+        return Err(Malformed { offset: start });
     };
     let mut further = [0; MOST_FURTHER];
     let row = row_end(&mut ahead, first, &mut further[0..count - 1])?;

@@ -1,10 +1,9 @@
-// Lines written into bytes that are lent. Each call writes from an offset on and answers the offset just past what it
-// wrote; the caller sees that there is room.
+// How a line is written.
 ghost use Rattle.std.specs.Prelude.{◌≡◌, ◌+◌, ◌*◌, ◌^◌, ◌≤◌, length};
-ghost use Rattle.text.specs.Writing.{written};
+ghost use Rattle.text.specs.Writing.{HasRoom, Appends};
 ghost use Rattle.record_form.specs.Lines.{line};
 
-use text::writing::{numbers_length, write_byte, write_bytes, write_numbers};
+use text::writing::{Writer, numbers_length};
 
 // How long a line is.
 pub fn line_length(start: &[u8], numbers: &[i64]) -> usize
@@ -16,13 +15,12 @@ pub fn line_length(start: &[u8], numbers: &[i64]) -> usize
     start.len() + numbers_length(numbers) + 1
 }
 
-// Writes a line.
-pub fn write_line(into: &mut [u8], at: usize, start: &[u8], numbers: &[i64]) -> usize
-    requires { at + length (line start.now numbers.now) ≤ length into.old }
-    ensures next { result ≡ at + length (line start.now numbers.now) }
-    ensures into { into.new ≡ written into.old at (line start.now numbers.now) }
+// Writes a line; the caller sees that there is room.
+pub fn write_line(writer: &mut Writer<'_>, start: &[u8], numbers: &[i64])
+    requires { HasRoom writer.old (line start.now numbers.now) }
+    ensures { Appends (line start.now numbers.now) writer.old writer.new }
 {
-    let next = write_bytes(into, at, start);
-    let next = write_numbers(into, next, numbers);
-    write_byte(into, next, b'\n')
+    writer.bytes(start);
+    writer.numbers(numbers);
+    writer.byte(b'\n');
 }

@@ -1,14 +1,18 @@
 -- Fields that are numbers: their bytes, their length and their value.
-use Rattle.std.proofs.Common.{◌≡◌, ℕ, zero, suc, ◌+◌, ◌-◌, ◌*◌, ◌/◌, ◌%◌, ◌^◌, ◌<◌, ◌≤◌, Bool, true, false, not, ◌&&◌, eqb, ltb, leb, List, [], ◌∷◌, length, get_or, drop, pos, neg_ℤ, decimal as natural_text, sym, refl, ap, ◌∙◌, subst, arith, rules}
+use Rattle.std.proofs.Common.{◌≡◌, ℕ, zero, suc, ◌+◌, ◌-◌, ◌*◌, ◌/◌, ◌%◌, ◌^◌, ◌<◌, ◌≤◌, Bool, true, false, not, ◌&&◌, eqb, ltb, leb, List, [], ◌∷◌, length, get_or, take, drop, ℤ, pos, neg_ℤ, Some, None, Option, Ok, Err, cond, decimal as natural_text, sym, refl, ap, ◌∙◌, subst, arith, rules}
+use lib.Pointwise.{pointwise}
 use Rattle.std.specs.Char.{is_ascii_digit}
 use Rattle.std.specs.Fmt.{digits, digit_glyph, digits_onto}
+use Rattle.std.specs.List.{list_all}
 use Rattle.std.specs.Str.{all_ascii_digits, bytes_eq}
 use Rattle.std.proofs.lemmas.Fmt.{decimal_digit, decimal_nonempty, first_decimal, decimal-digits_value}
 use Rattle.std.proofs.lemmas.List.{drop_more, drop_all}
 use Rattle.std.proofs.lemmas.Slice.Eq.{bytes_eq-Decides}
 use Rattle.std.proofs.lemmas.Str.Parse.{IsNumeralModel, numerals_by_fold, tells_all_ascii_digits, digit_at, digits_value_short}
-use Rattle.std.proofs.lemmas.Bool.{and_parts, and_from, leb-true, le-leb, eqb-true, eq-eqb, ne_eqb, eqb-false, false≢true, and_right, not-true, cond-true, cond-false, cond_both, lt-ltb}
-use Rattle.text.specs.Fields.{decimal, has_minus, after_minus, value_after, is_natural, value, is_number}
+use Rattle.std.proofs.lemmas.Int.{ints}
+use Rattle.std.proofs.lemmas.Bool.{and_parts, and_from, leb-true, le-leb, eqb-true, eq-eqb, ne_eqb, false≢true, and_right, cond-true, cond_both, lt-ltb}
+use Rattle.text.specs.Steps.{number_at}
+use Rattle.text.specs.Fields.{decimal, field_at, has_minus, value_after, is_natural, value, is_number}
 
 -- the digits of a number, and what they write
 pub own : IsNumeralModel (λ ds. all_ascii_digits ds ≡ true) (value_after 0)
@@ -93,6 +97,10 @@ refuted : (a : Bool) → (a ≡ true → ⊥) → false ≡ a
 refuted true no_way = absurd (no_way refl)
 refuted false no_way = refl
 
+each_digit : (ds : List ℕ) → list_all is_ascii_digit ds ≡ all_ascii_digits ds
+each_digit [] = refl
+each_digit (d ∷ ds) = ap (λ (b : Bool). is_ascii_digit d && b) (each_digit ds)
+
 -- a natural number by its length, its first digit and its digits
 module _ (ds : List ℕ) where
   pub natural_some : length ds ≡ 0 → false ≡ is_natural ds
@@ -112,9 +120,10 @@ module _ (ds : List ℕ) where
       alone (b ∷ []) one first = natural_from (b ∷ []) (omega arith) (omega arith) (λ _. refl) (tells_all_ascii_digits.more b [] (omega arith, omega arith) refl)
       alone (b ∷ c ∷ bs) one first = absurd (omega arith)
 
-  pub natural_digits : 0 < length ds → length ds ≤ 10 → ¬ (get_or ds 0 0 ≡ 48) → all_ascii_digits ds ≡ is_natural ds
+  pub natural_digits : 0 < length ds → length ds ≤ 10 → ¬ (get_or ds 0 0 ≡ 48) → list_all is_ascii_digit ds ≡ is_natural ds
   natural_digits some few lead =
-      agree (all_ascii_digits ds) (is_natural ds) (λ all. natural_from ds some few (λ e. absurd (lead e)) all) (λ e. (natural_facts ds e).all)
+      each_digit ds
+      ∙ agree (all_ascii_digits ds) (is_natural ds) (λ all. natural_from ds some few (λ e. absurd (lead e)) all) (λ e. (natural_facts ds e).all)
 
 -- the number that a run of digits writes, from digit to digit
 module _ (ds : List ℕ) (natural : is_natural ds ≡ true) (n i : ℕ) (within : i < length ds) (so_far : value_after n (drop i ds) ≡ value_after 0 ds) where
@@ -130,72 +139,93 @@ module _ (ds : List ℕ) (natural : is_natural ds ≡ true) (n i : ℕ) (within 
 pub last_value : (ds : List ℕ) (n i : ℕ) → length ds ≤ i → value_after n (drop i ds) ≡ value_after 0 ds → n ≡ value_after 0 ds
 last_value ds n i all so_far = sym (ap (value_after n) (drop_all i ds all)) ∙ so_far
 
--- digits alone, from byte to byte
-module _ (bs : List ℕ) (i : ℕ) where
-  pub digits_more : i < length bs → all_ascii_digits (drop i bs) ≡ is_ascii_digit (get_or bs i 0) && all_ascii_digits (drop (i + 1) bs)
-  digits_more within = ap all_ascii_digits (drop_more bs i 0 within)
-
-  pub digits_over : length bs ≤ i → all_ascii_digits (drop i bs) ≡ true
-  digits_over all = ap all_ascii_digits (drop_all i bs all)
-
--- a field with no minus is a number where it is a natural number, and one with a minus where that is not before 0
-pub number_plain : (bs : List ℕ) → has_minus bs ≡ false → is_number bs ≡ is_natural (after_minus bs)
+-- a field with no minus is a number where it is a natural number, and one with a minus where its digits are one other than 0
+pub number_plain : (bs : List ℕ) → has_minus bs ≡ false → is_number bs ≡ is_natural bs
 unfolding is_number is_natural
-number_plain bs e = rw e
+number_plain bs e = rw e refl
 
-absorb : (a b : Bool) → (a ≡ true → b ≡ true) → a ≡ a && b
-absorb true b follows = sym (follows refl)
-absorb false b follows = refl
+and_true : (b : Bool) → b && true ≡ b
+and_true true = refl
+and_true false = refl
 
-after_a_minus : (ds : List ℕ) → is_number (45 ∷ ds) ≡ is_natural ds && not (eqb (get_or ds 0 0) 48)
+after_a_minus : (ds : List ℕ) → is_number (45 ∷ ds) ≡ is_natural ds && not (eqb (value_after 0 ds) 0)
 unfolding is_number is_natural
 after_a_minus ds = go (value_after 0 ds) refl
   where
     few : Bool
     few = leb (length ds) 10
 
-    zero_text : natural_text 0 ≡ 48 ∷ []
-    zero_text = decimal_digit 0 (omega arith)
-
-    go : (n : ℕ) → value_after 0 ds ≡ n → few && bytes_eq (45 ∷ ds) (decimal (neg_ℤ (pos (value_after 0 ds)))) ≡ is_natural ds && not (eqb (get_or ds 0 0) 48)
+    go : (n : ℕ) → value_after 0 ds ≡ n → few && bytes_eq (45 ∷ ds) (decimal (neg_ℤ (pos (value_after 0 ds)))) ≡ is_natural ds && not (eqb (value_after 0 ds) 0)
     go zero none =
-        ap (λ (n : ℕ). few && bytes_eq (45 ∷ ds) (decimal (neg_ℤ (pos n)))) none
-        ∙ ap (λ (t : List ℕ). few && bytes_eq (45 ∷ ds) t) zero_text ∙ and_right few false refl
-        ∙ refuted (is_natural ds && not (eqb (get_or ds 0 0) 48)) (λ e.
-        let both = and_parts (is_natural ds) (not (eqb (get_or ds 0 0) 48)) e in
-        let written : ds ≡ 48 ∷ [] = (natural_facts ds both.0).written ∙ ap natural_text none ∙ zero_text in
-        eqb-false (get_or ds 0 0) 48 (not-true (eqb (get_or ds 0 0) 48) both.1) (ap (λ (t : List ℕ). get_or t 0 0) written))
-    go (suc n) more =
-        ap (λ (k : ℕ). few && bytes_eq (45 ∷ ds) (decimal (neg_ℤ (pos k)))) more
-        ∙ sym (ap (λ (k : ℕ). few && bytes_eq ds (natural_text k)) more)
-        ∙ absorb (is_natural ds) (not (eqb (get_or ds 0 0) 48)) (λ e.
-        let facts = natural_facts ds e in
-        ap not (ne_eqb (get_or ds 0 0) 48 (λ zero_leads.
-        omega (arith, first_decimal (value_after 0 ds) (omega arith) (omega arith), ap (λ (t : List ℕ). get_or t 0 0) facts.written))))
+        rw none
+        (ap (λ (t : List ℕ). few && bytes_eq (45 ∷ ds) t) (decimal_digit 0 (omega arith)) ∙ and_right few false refl ∙ sym (and_right (few && bytes_eq ds (natural_text 0)) false refl))
+    go (suc n) more = rw (more, ne_eqb (suc n) 0 (λ e. omega arith)) (sym (and_true (few && bytes_eq ds (natural_text (suc n)))))
 
-pub number_minus : (bs : List ℕ) → has_minus bs ≡ true → is_number bs ≡ is_natural (after_minus bs) && not (eqb (get_or (after_minus bs) 0 0) 48)
-number_minus [] e = absurd (false≢true e)
-number_minus (b ∷ ds) e =
-    subst (λ (c : ℕ). is_number (c ∷ ds) ≡ is_natural (after_minus (c ∷ ds)) && not (eqb (get_or (after_minus (c ∷ ds)) 0 0) 48))
-    (sym (eqb-true b 45 e)) (after_a_minus ds)
+-- a field begins with a minus where it begins with the bytes of a minus
+pub minus_by_prefix : (bs : List ℕ) → pointwise eqb (take 1 bs) (45 ∷ []) ≡ has_minus bs
+minus_by_prefix [] = refl
+minus_by_prefix (b ∷ bs) = and_true (eqb b 45)
 
-pub number_natural : (bs : List ℕ) → is_number bs ≡ true → is_natural (after_minus bs) ≡ true
-number_natural bs e = go (has_minus bs) refl
-  where
-    go : (minus : Bool) → has_minus bs ≡ minus → is_natural (after_minus bs) ≡ true
-    go true with_minus = (and_parts (is_natural (after_minus bs)) (not (eqb (get_or (after_minus bs) 0 0) 48)) (sym (number_minus bs with_minus) ∙ e)).0
-    go false plain = sym (number_plain bs plain) ∙ e
+-- the number that a field writes, if any
+abbrev pub read : List ℕ → Option ℤ
+read bs = cond (is_number bs) (Some (value bs)) None
 
--- the value of a field by its digits
+-- the number that digits write, if any
+abbrev pub read_digits : List ℕ → Option ℤ
+read_digits ds = cond (is_natural ds) (Some (pos (value_after 0 ds))) None
+
+pub made_digits : (b : Bool) (x m : ℤ) → cond b (Some x) None ≡ Some m → (b ≡ true) × (x ≡ m)
+made_digits true x m e = (refl, cc)
+made_digits false x m e = cc
+
+no_digits : (b : Bool) (x : ℤ) → cond b (Some x) None ≡ None → b ≡ false
+no_digits true x e = cc
+no_digits false x e = refl
+
 module _ (bs : List ℕ) where
-  pub value_plain : has_minus bs ≡ false → value bs ≡ pos (value_after 0 (after_minus bs))
-  value_plain e = cond-false (has_minus bs) (neg_ℤ (pos (value_after 0 (after_minus bs)))) (pos (value_after 0 (after_minus bs))) e
+  module _ (plain : has_minus bs ≡ false) where
+    pub value_plain : value bs ≡ pos (value_after 0 bs)
+    value_plain = rw plain refl
 
-  pub value_minus : has_minus bs ≡ true → value bs ≡ neg_ℤ (pos (value_after 0 (after_minus bs)))
-  value_minus e = cond-true (has_minus bs) (neg_ℤ (pos (value_after 0 (after_minus bs)))) (pos (value_after 0 (after_minus bs))) e
+    pub read_plain : read_digits bs ≡ read bs
+    read_plain = rw (number_plain bs plain, value_plain) refl
 
--- the number that the digits of a number's field write
-pub magnitude_is : (bs : List ℕ) {ds : List ℕ} {n : ℕ} → is_number bs ≡ true → ds ≡ after_minus bs → n ≡ value_after 0 ds → (n ≡ value_after 0 (after_minus bs)) × (n < 10 ^ 10)
-magnitude_is bs e is n-is =
-    let same = n-is ∙ ap (value_after 0) is in
-    (same, omega (arith, same, (natural_facts (after_minus bs) (number_natural bs e)).small))
+  module _ (minus : has_minus bs ≡ true) where
+    pub value_minus : value bs ≡ neg_ℤ (pos (value_after 0 (drop 1 bs)))
+    value_minus = rw minus refl
+
+    pub number_minus : is_number bs ≡ is_natural (drop 1 bs) && not (eqb (value_after 0 (drop 1 bs)) 0)
+    number_minus = go bs minus
+      where
+        go : (cs : List ℕ) → has_minus cs ≡ true → is_number cs ≡ is_natural (drop 1 cs) && not (eqb (value_after 0 (drop 1 cs)) 0)
+        go [] e = absurd (false≢true e)
+        go (c ∷ cs) e =
+            subst (λ (d : ℕ). is_number (d ∷ cs) ≡ is_natural (drop 1 (d ∷ cs)) && not (eqb (value_after 0 (drop 1 (d ∷ cs))) 0)) (sym (eqb-true c 45 e)) (after_a_minus cs)
+
+    module _ {ds : List ℕ} (rest : ds ≡ drop 1 bs) where
+      pub read_refused : read_digits ds ≡ None → None ≡ read bs
+      read_refused none = rw (number_minus, sym rest, no_digits (is_natural ds) (pos (value_after 0 ds)) none) refl
+
+      pub read_zero : {m : ℤ} → read_digits ds ≡ Some m → m ≡ pos 0 → None ≡ read bs
+      read_zero {m} made none =
+          let told = made_digits (is_natural ds) (pos (value_after 0 ds)) m made in
+          let zero_value : value_after 0 ds ≡ 0 = omega (arith, ints, told.1, none) in
+          rw (number_minus, sym rest, told.0, zero_value) refl
+
+      pub read_minus : {m : ℤ} → read_digits ds ≡ Some m → (m ≡ pos 0 → ⊥) → Some (neg_ℤ m) ≡ read bs
+      read_minus {m} made some =
+          let told = made_digits (is_natural ds) (pos (value_after 0 ds)) m made in
+          let more = ne_eqb (value_after 0 ds) 0 (λ e. some (sym told.1 ∙ ap pos e)) in
+          rw (number_minus, value_minus, sym rest, told.0, more, told.1) refl
+
+-- the step past a number, by what its field reads as
+module _ (text : List ℕ) (at : ℕ) {bs : List ℕ} {r : Option ℤ} (field-is : bs ≡ field_at text at) (told : r ≡ read bs) where
+  pub number_refused : r ≡ None → number_at text at ≡ Err at
+  unfolding number_at
+  number_refused none = rw (sym field-is, no_digits (is_number bs) (value bs) (sym told ∙ none)) refl
+
+  pub number_made : {x : ℤ} → r ≡ Some x → number_at text at ≡ Ok (x, at + length bs)
+  unfolding number_at
+  number_made {x} some =
+      let made = made_digits (is_number bs) (value bs) x (sym told ∙ some) in
+      rw (sym field-is, made.0, made.1) refl

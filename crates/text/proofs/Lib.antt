@@ -2,7 +2,6 @@ pub mod Runs
 pub mod Digits
 pub mod Calls
 pub mod Listing
-pub mod Spelling
 pub mod Overwriting
 pub mod Spaces
 pub mod Standing

@@ -39,9 +39,6 @@ abbrev pub Holds : List ℕ → ℕ → ℕ → ℕ → List ℤ → ℕ → Typ
 Holds text start at k held i = numbers_at text start k ≡ onto (take i held) (numbers_at text at (k - i))
 
 module _ (text : List ℕ) (start k : ℕ) where
-  pub holds_none : (held : List ℤ) → Holds text start start k held 0
-  holds_none held = onto_none (numbers_at text start k) ∙ ap (λ (n : ℕ). onto [] (numbers_at text start n)) (omega arith)
-
   module _ (at : ℕ) (held : List ℤ) (i : ℕ) (within : i < k) (so_far : Holds text start at k held i) where
     go_on : numbers_at text start k ≡ onto (take i held) (numbers_at text at (suc (k - (i + 1))))
     go_on = so_far ∙ ap (λ (n : ℕ). onto (take i held) (numbers_at text at n)) (omega arith)

@@ -1,15 +1,15 @@
 -- Words, numbers and ends read back where they are written, and are read nowhere else.
-use Rattle.std.proofs.Common.{◌≡◌, ℕ, zero, suc, ◌+◌, ◌^◌, ◌<◌, ◌≤◌, Bool, true, false, cond, eqb, leb, List, [], ◌∷◌, ◌++◌, length, get_or, drop, ℤ, pos, negsuc, neg_ℤ, nat_abs, Ok, Err, decimal as natural_text, sym, refl, ap, ◌∙◌, subst, arith}
+use Rattle.std.proofs.Common.{◌≡◌, ℕ, zero, suc, ◌+◌, ◌^◌, ◌<◌, ◌≤◌, Bool, true, false, cond, eqb, leb, not, List, [], ◌∷◌, ◌++◌, length, get_or, drop, ℤ, pos, negsuc, neg_ℤ, nat_abs, Ok, Err, decimal as natural_text, sym, refl, ap, ◌∙◌, subst, arith}
 use Rattle.std.specs.Str.{all_ascii_digits, bytes_eq}
 use Rattle.std.proofs.lemmas.Fmt.{digits_value-decimal, decimal_nonempty, length-decimal-le}
 use Rattle.std.proofs.lemmas.Slice.Eq.{bytes_eq-Decides}
 use Rattle.std.proofs.lemmas.List.{drop_at, get_or_at}
 use Rattle.std.proofs.lemmas.Str.Parse.{digit_at, tells_all_ascii_digits}
 use Rattle.std.proofs.lemmas.Bool.{and_parts, and_from, or_from, cond-true, le-leb, eqb-true, eq-eqb, ne_eqb}
-use Rattle.text.specs.Fields.{ends_field, field, field_at, decimal, has_minus, after_minus, value_after, value, is_number}
+use Rattle.text.specs.Fields.{ends_field, field, field_at, decimal, has_minus, after_minus, value_after, value, is_natural, is_number}
 use Rattle.text.specs.Steps.{past, number_at, word_at, space_at, line_end_at, text_end_at}
 use Rattle.text.specs.Theorems.{IsField, EndsField, TenDigits, Stands, NumberReadsBack, NumberIsWritten, WordReadsBack, WordIsWritten, EndsReadBack, EndsAreWritten}
-use Rattle.text.proofs.Digits.{own, text_digits, number_natural, natural_facts, value_plain, value_minus}
+use Rattle.text.proofs.Digits.{own, text_digits, number_plain, number_minus, natural_facts, value_plain, value_minus}
 use Rattle.text.proofs.Runs.{field_stops, field_goes_on}
 use Rattle.text.proofs.Standing.{made_under, byte_stands, field_stands}
 
@@ -70,8 +70,7 @@ no_minus_before n small = ap (λ (minus : Bool). drop (cond minus 1 0) (natural_
 
 value_of_decimal : (x : ℤ) → TenDigits x → value (decimal x) ≡ x
 value_of_decimal (pos n) short =
-    value_plain (natural_text n) (no_minus n (omega arith))
-    ∙ ap (λ (ds : List ℕ). pos (value_after 0 ds)) (no_minus_before n (omega arith)) ∙ ap pos (digits_value-decimal own n (omega arith))
+    value_plain (natural_text n) (no_minus n (omega arith)) ∙ ap pos (digits_value-decimal own n (omega arith))
 value_of_decimal (negsuc n) short = ap (λ (k : ℕ). neg_ℤ (pos k)) (digits_value-decimal own (suc n) (omega arith))
 
 few_digits : (x : ℤ) → TenDigits x → length (after_minus (decimal x)) ≤ 10
@@ -105,13 +104,9 @@ number_short bs e = go (has_minus bs) refl
   where
     go : (minus : Bool) → has_minus bs ≡ minus → TenDigits (value bs)
     go true minus =
-        omega (
-          arith,
-          ap nat_abs (value_minus bs minus),
-          size_of_minus (value_after 0 (after_minus bs)),
-          (natural_facts (after_minus bs) (number_natural bs e)).small,
-        )
-    go false plain = omega (arith, ap nat_abs (value_plain bs plain), (natural_facts (after_minus bs) (number_natural bs e)).small)
+        let natural = (and_parts (is_natural (drop 1 bs)) (not (eqb (value_after 0 (drop 1 bs)) 0)) (sym (number_minus bs minus) ∙ e)).0 in
+        omega (arith, ap nat_abs (value_minus bs minus), size_of_minus (value_after 0 (drop 1 bs)), (natural_facts (drop 1 bs) natural).small)
+    go false plain = omega (arith, ap nat_abs (value_plain bs plain), (natural_facts bs (sym (number_plain bs plain) ∙ e)).small)
 
 pub number_is_written : NumberIsWritten
 unfolding number_at

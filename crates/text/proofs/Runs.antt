@@ -1,29 +1,41 @@
 -- The field at the front of a text, and the byte that stands at an offset.
-use Rattle.std.proofs.Common.{◌≡◌, ℕ, ◌+◌, ◌^◌, ◌<◌, ◌≤◌, min, Bool, true, false, ◌&&◌, eqb, ◌⊎◌, List, [], ◌∷◌, ◌++◌, length, get_or, take, drop, sym, refl, ap, ◌∙◌, inl, inr, arith}
-use Rattle.std.specs.Str.{bytes_eq}
-use Rattle.std.proofs.lemmas.List.{drop_all, drop_more, get_or_past, length-append, length-drop, take_at}
-use Rattle.std.proofs.lemmas.Bool.{cases_lt, cond-true, cond-false, and_right}
-use Rattle.text.specs.Fields.{ends_field, field, field_at}
+use Rattle.std.proofs.Common.{◌≡◌, ℕ, suc, ◌+◌, Bool, true, false, ◌&&◌, ltb, List, [], ◌∷◌, ◌++◌, length, get_or, take, drop, Some, Err, Option, sym, refl, ap, ◌∙◌, arith}
+use Rattle.std.specs.List.{before_first, position, position_or_len, slice_get}
+use Rattle.std.specs.Option.{unwrap_or}
+use Rattle.std.proofs.lemmas.List.{take_all}
+use Rattle.std.proofs.lemmas.Bool.{cond-true, cond-false, ne_eqb, ltb-false}
+use Rattle.std.proofs.lemmas.Option.{unwrap_or-slice_get}
+use Rattle.text.specs.Steps.{past, space_at, line_end_at}
+use Rattle.text.specs.Fields.{ends_field, field}
 
 and_true : (b : Bool) → b && true ≡ b
 and_true true = refl
 and_true false = refl
 
--- a byte other than 0 is one of the text
-pub byte_within : (text : List ℕ) (at : ℕ) → 0 < get_or text at 0 → at < length text
-byte_within text at some = go (cases_lt at (length text))
-  where
-    go : (at < length text) ⊎ (length text ≤ at) → at < length text
-    go (inl within) = within
-    go (inr beyond) = absurd (omega (arith, get_or_past text at 0 beyond))
+-- the space and the end of a line, by the byte that stands at an offset
+module _ (text : List ℕ) (at : ℕ) where
+  byte_is : (found : Option ℕ) → slice_get text at ≡ found → get_or text at 0 ≡ unwrap_or found 0
+  byte_is found is = sym (unwrap_or-slice_get text at 0) ∙ ap (λ (o : Option ℕ). unwrap_or o 0) is
 
--- the rest of a text, from an offset that is cut at the text's end
-pub drop_cut : (text : List ℕ) (at : ℕ) → drop (min at (length text)) text ≡ drop at text
-drop_cut text at = go (cases_lt at (length text))
-  where
-    go : (at < length text) ⊎ (length text ≤ at) → drop (min at (length text)) text ≡ drop at text
-    go (inl within) = ap (λ (k : ℕ). drop k text) (omega arith)
-    go (inr beyond) = drop_all (min at (length text)) text (omega arith) ∙ sym (drop_all at text beyond)
+  pub space_here : slice_get text at ≡ Some 32 → space_at text at ≡ past (at + 1)
+  unfolding space_at
+  space_here is = rw (byte_is (Some 32) is) refl
+
+  pub line_end_here : slice_get text at ≡ Some 10 → line_end_at text at ≡ past (at + 1)
+  unfolding line_end_at
+  line_end_here is = rw (byte_is (Some 10) is) refl
+
+  pub further_field : slice_get text at ≡ Some 32 → line_end_at text at ≡ Err (at + 1)
+  unfolding line_end_at
+  further_field is = rw (byte_is (Some 32) is) refl
+
+  pub no_space : (found : Option ℕ) → slice_get text at ≡ found → (unwrap_or found 0 ≡ 32 → ⊥) → space_at text at ≡ Err at
+  unfolding space_at
+  no_space found is other = rw (byte_is found is, ne_eqb (unwrap_or found 0) 32 other) refl
+
+  pub no_line_end : (found : Option ℕ) → slice_get text at ≡ found → (unwrap_or found 0 ≡ 10 → ⊥) → (unwrap_or found 0 ≡ 32 → ⊥) → line_end_at text at ≡ Err at
+  unfolding line_end_at
+  no_line_end found is other more = rw (byte_is found is, ne_eqb (unwrap_or found 0) 10 other, ne_eqb (unwrap_or found 0) 32 more) refl
 
 module _ (b : ℕ) (bs : List ℕ) where
   pub field_stops : ends_field b ≡ true → field (b ∷ bs) ≡ []
@@ -32,18 +44,24 @@ module _ (b : ℕ) (bs : List ℕ) where
   pub field_goes_on : ends_field b ≡ false → field (b ∷ bs) ≡ b ∷ field bs
   field_goes_on e = cond-false (ends_field b) [] (b ∷ field bs) e
 
--- the field of what is left of a text, one byte on and at its end
-module _ (text : List ℕ) (i : ℕ) where
-  pub field_over : i < length text → ends_field (get_or text i 0) ≡ true → length (field (drop i text)) ≡ 0
-  field_over within e = ap (λ (bs : List ℕ). length (field bs)) (drop_more text i 0 within) ∙ ap length (field_stops (get_or text i 0) (drop (i + 1) text) e)
+-- the field at the front of a text ends where the first byte stands that ends a field, or with the text
+field_is : (text : List ℕ) → field text ≡ before_first ends_field text
+field_is [] = refl
+field_is (b ∷ bs) = go (ends_field b) refl (field_is bs)
+  where
+    go : (t : Bool) → ends_field b ≡ t → field bs ≡ before_first ends_field bs → field (b ∷ bs) ≡ before_first ends_field (b ∷ bs)
+    go true e rest = rw e refl
+    go false e rest =
+        let next : 1 + position_or_len ends_field bs ≡ suc (position_or_len ends_field bs) = omega arith in
+        rw e (rw next (ap (λ (all : List ℕ). b ∷ all) rest))
 
-  pub field_longer : i < length text → ends_field (get_or text i 0) ≡ false → length (field (drop i text)) ≡ length (field (drop (i + 1) text)) + 1
-  field_longer within e =
-      ap (λ (bs : List ℕ). length (field bs)) (drop_more text i 0 within)
-      ∙ ap length (field_goes_on (get_or text i 0) (drop (i + 1) text) e) ∙ omega arith
-
-  pub field_none : length text ≤ i → length (field (drop i text)) ≡ 0
-  field_none beyond = ap (λ (bs : List ℕ). length (field bs)) (drop_all i text beyond)
+pub field_by_position : (text : List ℕ) → take (unwrap_or (position ends_field text) (length text)) text ≡ field text
+field_by_position text = go (ltb (position_or_len ends_field text) (length text)) refl ∙ sym (field_is text)
+  where
+    go : (t : Bool) → ltb (position_or_len ends_field text) (length text) ≡ t → take (unwrap_or (position ends_field text) (length text)) text ≡ before_first ends_field text
+    go true e = rw e refl
+    go false e =
+        rw e (take_all (length text) text (omega arith) ∙ sym (take_all (position_or_len ends_field text) text (ltb-false (position_or_len ends_field text) (length text) e)))
 
 -- a text is its first field and what follows it
 pub field_splits : (bs : List ℕ) → bs ≡ field bs ++ drop (length (field bs)) bs
@@ -53,28 +71,3 @@ field_splits (b ∷ bs) = go (ends_field b) refl (field_splits bs)
     go : (t : Bool) → ends_field b ≡ t → bs ≡ field bs ++ drop (length (field bs)) bs → b ∷ bs ≡ field (b ∷ bs) ++ drop (length (field (b ∷ bs))) (b ∷ bs)
     go true e rest = rw (field_stops b bs e)
     go false e rest = rw (field_goes_on b bs e) (ap (λ (all : List ℕ). b ∷ all) rest)
-
-pub field_front : (bs : List ℕ) → take (length (field bs)) bs ≡ field bs
-field_front bs = ap (take (length (field bs))) (field_splits bs) ∙ take_at (field bs) (drop (length (field bs)) bs) (length (field bs)) refl
-
-pub field_short : (bs : List ℕ) → length (field bs) ≤ length bs
-field_short bs = omega (arith, ap length (field_splits bs), length-append (field bs) (drop (length (field bs)) bs))
-
--- the offset just past a field is a number of 64 bits, as the offset and the length of the text are
-pub field_fits : (text : List ℕ) (at : ℕ) → at < 2 ^ 64 → length text < 2 ^ 64 → at + length (field_at text at) < 2 ^ 64
-field_fits text at small few = go (cases_lt at (length text))
-  where
-    go : (at < length text) ⊎ (length text ≤ at) → at + length (field_at text at) < 2 ^ 64
-    go (inl within) = omega (arith, field_short (drop at text), length-drop at text)
-    go (inr beyond) = omega (arith, field_none text at beyond)
-
--- a field is a letter where it is one byte long and that byte is the letter
-pub letter_alone : (bs : List ℕ) (letter : ℕ) → length bs ≡ 1 → bytes_eq bs (letter ∷ []) ≡ eqb (get_or bs 0 0) letter
-letter_alone [] letter one = absurd (omega arith)
-letter_alone (b ∷ []) letter one = and_true (eqb b letter)
-letter_alone (b ∷ c ∷ bs) letter one = absurd (omega arith)
-
-pub letter_not_alone : (bs : List ℕ) (letter : ℕ) → ¬ (length bs ≡ 1) → bytes_eq bs (letter ∷ []) ≡ false
-letter_not_alone [] letter more = refl
-letter_not_alone (b ∷ []) letter more = absurd (more refl)
-letter_not_alone (b ∷ c ∷ bs) letter more = and_right (eqb b letter) false refl

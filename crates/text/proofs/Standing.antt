@@ -1,10 +1,19 @@
 -- Bytes that stand in a text, and steps that were made one after another.
-use Rattle.std.proofs.Common.{◌≡◌, ℕ, ◌+◌, ◌<◌, Bool, true, false, cond, List, [], ◌∷◌, ◌++◌, length, get_or, drop, Ok, Err, sym, refl, ap, ◌∙◌, append_assoc, append-nil, arith}
-use Rattle.std.proofs.lemmas.List.{drop_all, drop-drop, drop_more, length-append}
+use Rattle.std.proofs.Common.{◌≡◌, ℕ, ◌+◌, ◌<◌, ◌≤◌, ◌⊎◌, inl, inr, Bool, true, false, cond, List, [], ◌∷◌, ◌++◌, length, get_or, drop, Ok, Err, sym, refl, ap, ◌∙◌, append_assoc, append-nil, arith}
+use Rattle.std.proofs.lemmas.List.{drop_all, drop-drop, drop_more, get_or_past, length-append}
+use Rattle.std.proofs.lemmas.Bool.{cases_lt}
 use Rattle.text.specs.Fields.{field_at}
 use Rattle.text.specs.Steps.{Step, and_then}
 use Rattle.text.specs.Theorems.{Stands}
-use Rattle.text.proofs.Runs.{byte_within, field_splits}
+use Rattle.text.proofs.Runs.{field_splits}
+
+-- a byte other than 0 is one of the text
+byte_within : (text : List ℕ) (at : ℕ) → 0 < get_or text at 0 → at < length text
+byte_within text at some = go (cases_lt at (length text))
+  where
+    go : (at < length text) ⊎ (length text ≤ at) → at < length text
+    go (inl within) = within
+    go (inr beyond) = absurd (omega (arith, get_or_past text at 0 beyond))
 
 -- a step that is made under a test is made with the test passed
 pub made_under : {T : Type 0} (test : Bool) (read other : T × ℕ) (offset : ℕ) → cond test (Ok read) (Err offset) ≡ Ok other

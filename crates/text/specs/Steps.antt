@@ -7,11 +7,6 @@ use Rattle.text.specs.Fields.{field_at, is_number, value}
 abbrev pub Step : Type 0 → Type 0
 Step T = Result (T × ℕ) ℕ
 
--- The answer of a step: what it read, or the offset of the offending byte.
-abbrev pub answer : {T : Type 0} → Step T → Result T ℕ
-answer (Ok read) = Ok read.0
-answer (Err offset) = Err offset
-
 -- Where the walk stands after a step from `at`: just past what was read, and where it stood if nothing was.
 abbrev pub reached : {T : Type 0} → ℕ → Step T → ℕ
 reached at (Ok read) = read.1

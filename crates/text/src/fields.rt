@@ -1,5 +1,6 @@
 // The fields of a line.
-ghost use Rattle.std.specs.Prelude.{◌≡◌, [], ◌∷◌, length};
+ghost use Rattle.std.specs.Prelude.{◌≡◌, [], ◌∷◌};
+ghost use Rattle.std.specs.List.{position};
 ghost use Rattle.std.specs.Str.{bytes_eq};
 ghost use Rattle.text.specs.Fields.{ends_field, field};
 
@@ -10,24 +11,19 @@ fn ends_field(byte: u8) -> bool
     byte == b' ' || byte == b'\n'
 }
 
-// How long the field at the front of a text is.
-fn field_length(text: &[u8]) -> usize
-    ensures { result ≡ length (field text.now) }
+// Where the field at the front of a text ends, if not with the text.
+fn field_end(text: &[u8]) -> Option<usize>
+    ensures { result ≡ position ends_field text.now }
 {
-    for (i, byte) in text.iter().enumerate() {
-        if ends_field(*byte) {
-            return i;
-        }
-    }
-    text.len()
+    text.iter().position(|byte| ends_field(*byte))
 }
 
 // The field at the front of a text.
 pub(crate) fn first_field(text: &[u8]) -> &[u8]
     ensures { result.now ≡ field text.now }
 {
-    let length = field_length(text);
-    &text[0..length]
+    let end = field_end(text).unwrap_or(text.len());
+    &text[..end]
 }
 
 // The field is the given word.
@@ -41,5 +37,5 @@ pub(crate) fn is_word(field: &[u8], word: &[u8]) -> bool
 pub(crate) fn is_letter(field: &[u8], letter: char) -> bool
     ensures { result ≡ bytes_eq field.now (letter ∷ []) }
 {
-    field.len() == 1 && char::from(field[0]) == letter
+    matches!(field, [byte] if char::from(*byte) == letter)
 }

@@ -1,6 +1,7 @@
-use Rattle.std.proofs.Common.{◌≡◌, ◌+◌, ◌++◌, map, length, arith}
+use Rattle.std.proofs.Common.{◌≡◌, ℕ, ◌+◌, ◌≤◌, List, ◌++◌, map, length, ap, ◌∙◌, arith, rules}
 use Rattle.std.proofs.lemmas.List.{length-append}
-use Rattle.text.proofs.Overwriting.{written_then}
+use Rattle.text.proofs.Overwriting.{appends_then}
+use Rattle.text.specs.Writing.{HasRoom, written}
 use Rattle.record_form.specs.Lines.{row_lines}
 use Rattle.record.specs.Outlines.{outline_text}
 use Rattle.record.proofs.Wholes.{refused_answer, refused_bytes, made_answer, made_bytes}
@@ -21,9 +22,16 @@ returns g c =
     let front = outline_text c.args.outline.now in
     let back = row_lines (map g.W.Written.row c.args.costs.now) in
     let bytes = c.args.bytes.now in
-    let all = written_then bytes 0 front back (omega arith) c.write-next.ensures.into (omega (arith, c.write-next.ensures.next)) c.write_rows.ensures.into in
+    let writer = c.new-writer.result in
+    let long : c.length.result + c.rows_length.result ≡ length (front ++ back) = omega (arith, length-append front back, c.length.ensures.length, c.rows_length.ensures.length) in
+    let room : HasRoom writer (front ++ back) = omega (arith, long, c.if-bytes-needed.false, c.new-writer.ensures.at, ap length c.new-writer.ensures.bytes) in
+    let all = appends_then front back room c.write.ensures c.write_rows.ensures in
+    let fits : length (front ++ back) ≤ length bytes = omega (arith, long, c.if-bytes-needed.false) in
+    let same = all.same ∙ c.new-writer.ensures.same in
+    let made =
+    made_bytes (front ++ back) bytes fits
+    (all.bytes ∙ ap (λ (t : List ℕ). written t writer.at (front ++ back)) c.new-writer.ensures.bytes ∙ ap (λ (n : ℕ). written bytes n (front ++ back)) c.new-writer.ensures.at) in
     record {
-      answer = made_answer (front ++ back) bytes c.write_rows.result (omega (arith, length-append front back, c.write-next.ensures.next, c.write_rows.ensures.next))
-          (omega (arith, length-append front back, c.write-next.ensures.next, c.write_rows.ensures.next, c.length.ensures.length, c.rows_length.ensures.length, c.if-bytes-needed.false));
-      bytes = made_bytes (front ++ back) bytes (omega (arith, length-append front back, c.length.ensures.length, c.rows_length.ensures.length, c.if-bytes-needed.false)) all;
+      answer = made_answer (front ++ back) bytes c.write_rows.new.writer.at (omega (arith, all.at, c.new-writer.ensures.at)) (omega (arith, all.at, c.new-writer.ensures.at, fits));
+      bytes = search rules;
     }

@@ -2,11 +2,14 @@ use Rattle.std.proofs.Common.{rules}
 use Rattle.text.proofs.Digits.{natural_some, natural_few, natural_zero, natural_digits}
 use Rattle.text.proofs.numerals.is_natural.Goals as goal
 
-pub returns-then-length-gt-MOST_DIGITS : goal.returns-then-length-gt-MOST_DIGITS
-returns-then-length-gt-MOST_DIGITS c = search (rules, natural_some, natural_few)
+pub returns-in-None : goal.returns-in-None
+returns-in-None c = search (rules, natural_some)
 
-pub returns-then-digits-eq48 : goal.returns-then-digits-eq48
-returns-then-digits-eq48 c = search (rules, natural_zero)
+pub returns-in-Some-eq48 : goal.returns-in-Some-eq48
+returns-in-Some-eq48 c = search (rules, natural_zero)
 
-pub returns-else-digits-eq48 : goal.returns-else-digits-eq48
-returns-else-digits-eq48 c = search (rules, natural_digits)
+pub returns-then-digits-le-MOST_DIGITS : goal.returns-then-digits-le-MOST_DIGITS
+returns-then-digits-le-MOST_DIGITS c = search (rules, natural_digits)
+
+pub returns-else-digits-le-MOST_DIGITS : goal.returns-else-digits-le-MOST_DIGITS
+returns-else-digits-le-MOST_DIGITS c = search (rules, natural_few)

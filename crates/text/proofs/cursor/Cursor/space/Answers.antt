@@ -1,15 +1,21 @@
-use Rattle.std.proofs.Common.{arith, rules}
-use Rattle.text.specs.Steps.{space_at}
-use Rattle.text.proofs.Runs.{byte_within}
+use Rattle.std.proofs.Common.{◌≡◌, Some, None, sym, refl, ◌∙◌, arith, rules}
+use Rattle.std.specs.List.{slice_get}
+use Rattle.text.specs.Walks.{text_of}
+use Rattle.text.proofs.Calls.{makes, refuses}
+use Rattle.text.proofs.Runs.{space_here, no_space}
 use Rattle.text.proofs.cursor.Cursor.space.Goals as goal
+use Rattle.text.proofs.cursor.Cursor.space.Goals.{in_default-via-in-Some+in_default, in_default-via-in_default}
 
-pub overflow_add-self : goal.overflow_add-self
-overflow_add-self c = let within = byte_within c.args.self.now.text.now c.args.self.now.at (omega arith) in search rules
+pub returns : goal.returns
+returns c =
+    let is : slice_get (text_of c.args.self.now) c.args.self.now.at ≡ Some 32 = search rules in
+    makes tt (space_here _ _ is) refl
 
-pub returns-then-is_space : goal.returns-then-is_space
-unfolding space_at
-returns-then-is_space c = search rules
-
-pub returns-else-is_space : goal.returns-else-is_space
-unfolding space_at
-returns-else-is_space c = search rules
+pub returns-in_default : goal.returns-in_default
+returns-in_default c =
+    elim c.in_default.branch [
+      | in_default-via-in-Some+in_default w ↦
+          (let other : w.in_default.field-0 ≡ 32 → ⊥ = search rules in
+          rw c.malformed.ensures (refuses _ (no_space _ _ _ (sym c.byte.ensures ∙ w.in_default.is) other) refl refl))
+      | in_default-via-in_default w ↦ (rw c.malformed.ensures (refuses _ (no_space _ _ None (sym c.byte.ensures ∙ w.in_default.is) (λ e. omega arith)) refl refl))
+    ]

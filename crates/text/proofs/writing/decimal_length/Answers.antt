@@ -1,6 +1,0 @@
-use Rattle.std.proofs.Common.{arith}
-use Rattle.std.proofs.lemmas.Fmt.{length-decimal-le}
-use Rattle.text.proofs.writing.decimal_length.Goals as goal
-
-pub overflow_add-result : goal.overflow_add-result
-overflow_add-result c = let few = length-decimal-le 20 c.unsigned_abs.result (omega arith) (omega arith) (omega arith) in omega arith
