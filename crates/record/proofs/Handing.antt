@@ -7,6 +7,7 @@ use Rattle.cost.specs.Places.{kept_or}
 use Rattle.record.specs.Faults.{spot}
 use Rattle.record.specs.Readings.{fed, laid, unless_refused}
 use Rattle.record.specs.declared.faults.RecordFault.TheVariants.{Draft}
+use Rattle.record.specs.declared.faults.Spot.{Spot}
 
 -- the supplies from a place on
 module _ (k : Sketch) (xs : List ℤ) (i : ℕ) where
@@ -30,28 +31,27 @@ module _ (k : Sketch) (xs : List ℤ) (i : ℕ) where
 
 -- the arcs from a place on
 module _ (k : Sketch) (ts hs : List ℤ) (i : ℕ) where
-  next_laid : i < length ts → i < length hs → laid k (i + 2) (drop i ts) (drop i hs) ≡ laid k (i + 2) (get_or ts i (pos 0) ∷ drop (i + 1) ts) (get_or hs i (pos 0) ∷ drop (i + 1) hs)
-  next_laid h h' = ap (λ (xs : List ℤ). laid k (i + 2) xs (drop i hs)) (drop_more ts i (pos 0) h) ∙ ap (laid k (i + 2) (get_or ts i (pos 0) ∷ drop (i + 1) ts)) (drop_more hs i (pos 0) h')
+  module _ (t h : ℤ) (here : i < length ts) (there : i < length hs) (tail : t ≡ get_or ts i (pos 0)) (head : h ≡ get_or hs i (pos 0)) where
+    next_laid : laid k (i + 2) (drop i ts) (drop i hs) ≡ laid k (i + 2) (t ∷ drop (i + 1) ts) (h ∷ drop (i + 1) hs)
+    next_laid =
+        ap (λ (xs : List ℤ). laid k (i + 2) xs (drop i hs)) (drop_more ts i (pos 0) here ∙ ap (λ (x : ℤ). x ∷ drop (i + 1) ts) (sym tail))
+        ∙ ap (laid k (i + 2) (t ∷ drop (i + 1) ts)) (drop_more hs i (pos 0) there ∙ ap (λ (x : ℤ). x ∷ drop (i + 1) hs) (sym head))
 
-  abbrev arc_more : Sketch
-  arc_more = with_arc k (get_or ts i (pos 0)) (get_or hs i (pos 0))
+    pub laid_more : (after : Sketch) → lay_refusal k t h ≡ None → after ≡ kept_or k (lay_refusal k t h) (with_arc k t h)
+        → laid k (i + 2) (drop i ts) (drop i hs) ≡ laid after (i + 1 + 2) (drop (i + 1) ts) (drop (i + 1) hs)
+    laid_more after none is =
+        let same : with_arc k t h ≡ after = sym (is ∙ ap (λ (r : Option DraftFault). kept_or k r (with_arc k t h)) none) in
+        next_laid
+        ∙ ap (λ (r : Option DraftFault). unless_refused r (spot 4 (i + 2)) (laid (with_arc k t h) (i + 2 + 1) (drop (i + 1) ts) (drop (i + 1) hs))) none
+        ∙ ap (λ (field : ℕ). laid (with_arc k t h) field (drop (i + 1) ts) (drop (i + 1) hs)) (omega arith)
+        ∙ ap (λ (k' : Sketch). laid k' (i + 1 + 2) (drop (i + 1) ts) (drop (i + 1) hs)) same
 
-  abbrev no_arc_more : Option DraftFault
-  no_arc_more = lay_refusal k (get_or ts i (pos 0)) (get_or hs i (pos 0))
-
-  pub laid_more : i < length ts → i < length hs → (after : Sketch) → no_arc_more ≡ None → after ≡ kept_or k no_arc_more arc_more
-      → laid k (i + 2) (drop i ts) (drop i hs) ≡ laid after (i + 1 + 2) (drop (i + 1) ts) (drop (i + 1) hs)
-  laid_more h h' after none is =
-      let same : arc_more ≡ after = sym (is ∙ ap (λ (r : Option DraftFault). kept_or k r arc_more) none) in
-      next_laid h h'
-      ∙ ap (λ (r : Option DraftFault). unless_refused r (spot 4 (i + 2)) (laid arc_more (i + 2 + 1) (drop (i + 1) ts) (drop (i + 1) hs))) none
-      ∙ ap (λ (field : ℕ). laid arc_more field (drop (i + 1) ts) (drop (i + 1) hs)) (omega arith)
-      ∙ ap (λ (k' : Sketch). laid k' (i + 1 + 2) (drop (i + 1) ts) (drop (i + 1) hs)) same
-
-  pub laid_refused : i < length ts → i < length hs → {fault : DraftFault} → no_arc_more ≡ Some fault
-      → laid k (i + 2) (drop i ts) (drop i hs) ≡ Err (Draft fault (spot 4 (i + 2)))
-  laid_refused h h' some =
-      next_laid h h' ∙ ap (λ (r : Option DraftFault). unless_refused r (spot 4 (i + 2)) (laid arc_more (i + 2 + 1) (drop (i + 1) ts) (drop (i + 1) hs))) some
+    pub laid_refused : {fault : DraftFault} → lay_refusal k t h ≡ Some fault → laid k (i + 2) (drop i ts) (drop i hs) ≡ Err (Draft fault (spot 4 (i + 2)))
+    laid_refused some =
+        next_laid ∙ ap (λ (r : Option DraftFault). unless_refused r (spot 4 (i + 2)) (laid (with_arc k t h) (i + 2 + 1) (drop (i + 1) ts) (drop (i + 1) hs))) some
 
   pub laid_all : length ts ≤ i → laid k (i + 2) (drop i ts) (drop i hs) ≡ Ok k
   laid_all h = ap (λ (xs : List ℤ). laid k (i + 2) xs (drop i hs)) (drop_all i ts h)
+
+pub same_spot : (s : Spot) {line field : ℕ} → s.line ≡ line → s.field ≡ field → s ≡ spot line field
+same_spot s {line} {field} one two = ap (λ (l : ℕ). spot l s.field) one ∙ ap (spot line) two

@@ -100,7 +100,7 @@ module _ (kind : Kind) (text : List ℕ) where
         let c = b + length third in
         let few_c = stands_within text b third c few_b three.0 in
         let counts : Counts = record { nodes = pos (length nodes); arcs = pos (length arcs) } in
-        let net = net_read text kind.letter places refl (first_line_back text 0 kind.letter (length nodes) (length arcs) a (omega arith) one.0 visible few_nodes few_arcs)
+        let net = net_read text kind.letter places refl refl (first_line_back text 0 kind.letter (length nodes) (length arcs) a (omega arith) one.0 visible few_nodes few_arcs)
         (begins places counts (enough (length arcs) places room) (sized (length nodes) few_nodes)) in
         let supplies = supply_read text a (begun (length nodes)) (length-map nodes (λ (n : Node). n.supply) ∙ sym (length-replicate (length nodes) no_node))
         (list_back text a (codes "sup") (supplies_of nodes) b few_a two.0 refl small_supplies) (fed_back nodes [] [] 2 fit) in

@@ -14,20 +14,39 @@ use Rattle.ledger.specs.declared.faults.DraftFault.{DraftFault}
 use Rattle.ledger.specs.declared.faults.DraftFault.TheVariants.{Number}
 use Rattle.record_form.specs.Lines.{first_line_at, list_at, row_at}
 use Rattle.record_form.specs.declared.lines.Counts.{Counts}
+use Rattle.text.specs.Walks.{text_of}
+use Rattle.text.specs.declared.cursor.Cursor.{Cursor}
 use Rattle.record.specs.Faults.{spot}
+use Rattle.record.specs.Outcomes.{Takes, shown_by}
 use Rattle.record.specs.Readings.{Kind, Stage, up_to, fed, laid, begun_by, accepted_row, net_stage, supply_stage, arc_stage, network_stage, row_stage}
 use Rattle.record.specs.declared.faults.RecordFault.{RecordFault}
 use Rattle.record.specs.declared.faults.RecordFault.TheVariants.{Form, Space, Draft, Cost}
 
-module _ (text : List ℕ) (letter places : ℕ) where
-  pub net_form : {sign o : ℕ} → sign ≡ letter → first_line_at text 0 sign ≡ Err o → net_stage text letter places ≡ Err (Form o)
-  unfolding net_stage
-  net_form is e = rw (sym (ap (first_line_at text 0) is) ∙ e)
+-- what a call that took lines tells
+module _ {T U : Type 0} {show : T → U} {stage : List ℕ → ℕ → Stage U} {before after : Cursor} where
+  pub taken : {text : List ℕ} {x : T} → text_of before ≡ text → Takes show stage before after (Ok x) → stage text before.at ≡ Ok (show x, after.at)
+  taken of call = sym (call.answer ∙ ap (λ (t : List ℕ). stage t before.at) of)
 
-  pub net_read : {sign : ℕ} {counts : Counts} {next : ℕ} {r : Result (Sketch × ℕ) RecordFault} → sign ≡ letter → first_line_at text 0 sign ≡ Ok (counts, next)
-      → begun_by places counts ≡ r → net_stage text letter places ≡ up_to next r
-  unfolding net_stage
-  net_read {next = next} is e begins = rw (sym (ap (first_line_at text 0) is) ∙ e) (ap (up_to next) begins)
+  pub not_taken : {text : List ℕ} {f : RecordFault} → text_of before ≡ text → Takes show stage before after (Err f) → stage text before.at ≡ Err f
+  not_taken of call = sym (call.answer ∙ ap (λ (t : List ℕ). stage t before.at) of)
+
+pub shown_up_to : {T U : Type 0} (show : T → U) (next : ℕ) (r : Result T RecordFault) → shown_by (λ value. (show value, next)) r ≡ up_to next (shown_by show r)
+shown_up_to show next (Ok value) = refl
+shown_up_to show next (Err fault) = refl
+
+module _ (text : List ℕ) (letter places : ℕ) where
+  module _ {sign at : ℕ} (is : sign ≡ letter) (start : at ≡ 0) where
+    first_line : first_line_at text at sign ≡ first_line_at text 0 letter
+    first_line = ap (λ (n : ℕ). first_line_at text n sign) start ∙ ap (first_line_at text 0) is
+
+    pub net_form : {o : ℕ} → first_line_at text at sign ≡ Err o → net_stage text letter places ≡ Err (Form o)
+    unfolding net_stage
+    net_form e = rw (sym first_line ∙ e)
+
+    pub net_read : {counts : Counts} {next : ℕ} {r : Result (Sketch × ℕ) RecordFault} → first_line_at text at sign ≡ Ok (counts, next)
+        → begun_by places counts ≡ r → net_stage text letter places ≡ up_to next r
+    unfolding net_stage
+    net_read {next = next} e begins = rw (sym first_line ∙ e) (ap (up_to next) begins)
 
   pub network_net : {f : RecordFault} → net_stage text letter places ≡ Err f → network_stage text letter places ≡ Err f
   unfolding network_stage
@@ -116,5 +135,5 @@ pub same_start : {k k' : Sketch} {arcs arcs' at : ℕ} → k ≡ k' → arcs ≡
 same_start {k' = k'} {arcs = arcs} {at = at} one two = ap (λ (s : Sketch). Ok ((s, arcs), at)) one ∙ ap (λ (n : ℕ). Ok ((k', n), at)) two
 
 -- as many places of a list of 256 as there are arcs
-pub arcs_long : (arcs : ℕ) → arcs ≤ 256 → length (take (arcs - 0) (replicate 256 (pos 0))) ≡ arcs
-arcs_long arcs few = length-take-le (arcs - 0) (replicate 256 (pos 0)) (omega arith) ∙ omega arith
+pub arcs_long : (arcs : ℕ) → arcs ≤ 256 → length (take arcs (replicate 256 (pos 0))) ≡ arcs
+arcs_long arcs few = length-take-le arcs (replicate 256 (pos 0)) (omega arith)

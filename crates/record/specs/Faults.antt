@@ -1,5 +1,5 @@
 -- What the refusals of a record carry, case by case.
-use Rattle.std.specs.Prelude.{ℕ, Ok, Err, Result}
+use Rattle.std.specs.Prelude.{ℕ}
 use Rattle.cost.specs.Refusals.{refusal, cost_refusal}
 use Rattle.cost.specs.declared.refusals.CostFault.{CostFault}
 use Rattle.cost.specs.declared.refusals.Layer.TheVariants as layer
@@ -29,16 +29,6 @@ record_spot (Form offset) = spot 0 0
 record_spot (Space needed) = spot 0 0
 record_spot (Draft fault place) = place
 record_spot (Cost fault place) = place
-
--- What a step of the draft answers, met at a spot.
-abbrev pub draft_at : {T : Type 0} → Spot → Result T DraftFault → Result T RecordFault
-draft_at place (Ok value) = Ok value
-draft_at place (Err fault) = Err (Draft fault place)
-
--- What filling a cost answers, met at a spot.
-abbrev pub cost_at : {T : Type 0} → Spot → Result T CostFault → Result T RecordFault
-cost_at place (Ok value) = Ok value
-cost_at place (Err fault) = Err (Cost fault place)
 
 -- Every refusal of writing is one of the record.
 abbrev pub writing_refusal : WritingFault → Refusal

@@ -5,7 +5,9 @@ use Rattle.cost.specs.Meaning.{Meaning}
 use Rattle.ledger.specs.Books.{Book}
 use Rattle.cost.specs.Places.{kept_or, unless}
 use Rattle.text.specs.Writing.{written}
-use Rattle.record.specs.Readings.{Reading}
+use Rattle.text.specs.Walks.{text_of}
+use Rattle.text.specs.declared.cursor.Cursor.{Cursor}
+use Rattle.record.specs.Readings.{Reading, Stage}
 use Rattle.record.specs.Texts.{unwritten}
 use Rattle.record.specs.declared.faults.RecordFault.{RecordFault}
 use Rattle.record.specs.declared.faults.WritingFault.{WritingFault}
@@ -14,6 +16,11 @@ use Rattle.record.specs.declared.faults.WritingFault.{WritingFault}
 abbrev pub shown_by : {T U F : Type 0} → (T → U) → Result T F → Result U F
 shown_by show (Ok value) = Ok (show value)
 shown_by show (Err fault) = Err fault
+
+-- A call takes lines: its answer shows what the lines give, and the cursor moves past them within its text.
+pub record Takes {T U : Type 0} (show : T → U) (stage : List ℕ → ℕ → Stage U) (before after : Cursor) (r : Result T RecordFault) : Type 0 where
+  pub answer : shown_by (λ value. (show value, after.at)) r ≡ stage (text_of before) before.at
+  pub keeps : text_of after ≡ text_of before
 
 -- The first cost places were filled from rows, and the others are as they were.
 pub record Filled {C : Type 0} (row : C → List ℤ) (before after : List C) (rows : List (List ℤ)) : Type 0 where

@@ -1,8 +1,7 @@
-// The first four lines of a record, read into a draft. Each function takes the text and the offset that its lines begin
-// at, and answers the offset just past them.
+// The first four lines of a record, read into a draft. Each function walks past its lines.
 ghost use Rattle.std.specs.Prelude.{◌≡◌, ◌≤◌, length, IfOk};
 ghost use Rattle.sheet.specs.Drafts.{sketch_of};
-ghost use Rattle.record.specs.Outcomes.{shown_by};
+ghost use Rattle.record.specs.Outcomes.{Takes, shown_by};
 ghost use Rattle.record.specs.Readings.{arc_stage, fed, laid, net_stage, network_stage, supply_stage};
 
 use crate::faults::{RecordFault, Spot};
@@ -13,21 +12,19 @@ use sheet::sheets::drafting::steps::size;
 use sheet::sheets::{MOST_ARCS, MOST_NODES};
 use text::cursor::Cursor;
 
-// A draft that has begun, for so many nodes and arcs, and where its lines go on.
+// A draft that has begun, for so many nodes and arcs.
 #[derive(Clone, Copy)]
 struct Begun {
     draft: Draft,
     nodes: usize,
     arcs: usize,
-    at: usize,
 }
 
-// A draft of the whole network, how many rows are to come, and where they begin.
+// A draft of the whole network, and how many rows are to come.
 #[derive(Clone, Copy)]
 pub(crate) struct Network {
     pub draft: Draft,
     pub arcs: usize,
-    pub at: usize,
 }
 
 // Feeds all supplies.
@@ -41,7 +38,9 @@ fn feed_all(draft: Draft, supplies: &[i64]) -> Result<Draft, RecordFault>
             line: 2,
             field: i + 2,
         };
-        spot.draft(draft.feed(*supply))?;
+        draft
+            .feed(*supply)
+            .map_err(|fault| RecordFault::Draft(fault, spot))?;
     }
     Ok(draft)
 }
@@ -53,89 +52,81 @@ fn lay_all(draft: Draft, tails: &[i64], heads: &[i64]) -> Result<Draft, RecordFa
     ensures { shown_by sketch_of result ≡ laid (sketch_of draft) 2 tails.now heads.now }
 {
     let mut draft = draft;
-    for (i, tail) in tails.iter().enumerate() {
-        let spot = Spot {
-            line: 4,
-            field: i + 2,
-        };
-        spot.draft(draft.lay(*tail, heads[i]))?;
+    let mut spot = Spot { line: 4, field: 2 };
+    for (tail, head) in tails.iter().zip(heads) {
+        draft
+            .lay(*tail, *head)
+            .map_err(|fault| RecordFault::Draft(fault, spot))?;
+        spot.field += 1;
     }
     Ok(draft)
 }
 
 // The first line: a draft of so many nodes, if there are cost places enough.
-fn net_line<W: Recorded>(text: &[u8], places: usize) -> Result<Begun, RecordFault>
-    ensures shown { shown_by (λ b. ((sketch_of b.draft, b.arcs), b.at)) result ≡ net_stage text.now W.Written.sign places }
+fn net_line<W: Recorded>(cursor: &mut Cursor<'_>, places: usize) -> Result<Begun, RecordFault>
+    requires { cursor.old.at ≡ 0 }
+    ensures shown { Takes (λ b. (sketch_of b.draft, b.arcs)) (λ text _. net_stage text W.Written.LETTER places) cursor.old cursor.new result }
     ensures nodes { IfOk result (λ b. (b.nodes ≡ length (sketch_of b.draft).nodes) × (b.nodes ≤ 64)) }
     ensures arcs { IfOk result (λ b. (b.arcs ≤ 256) × (b.arcs ≤ places)) }
 {
-    let mut cursor = Cursor { text, at: 0 };
-    let counts = lines::first_line(&mut cursor, W::sign())?;
+    let counts = lines::first_line(cursor, W::LETTER)?;
     let arcs = counts.arcs as usize;
     if places < arcs {
         return Err(RecordFault::Space(arcs));
     }
     let spot = Spot { line: 1, field: 3 };
-    let size = spot.draft(size(counts.nodes))?;
+    let size = size(counts.nodes).map_err(|fault| RecordFault::Draft(fault, spot))?;
     Ok(Begun {
         draft: Draft::new(size),
         nodes: counts.nodes as usize,
         arcs,
-        at: cursor.at,
     })
 }
 
 // The second line: as many supplies as the draft has nodes.
 fn supply_line(
-    text: &[u8],
-    at: usize,
+    cursor: &mut Cursor<'_>,
     draft: Draft,
     supplies: &mut [i64],
-) -> Result<(Draft, usize), RecordFault>
+) -> Result<Draft, RecordFault>
     requires each { length supplies.old ≡ length (sketch_of draft).nodes }
     requires few { length supplies.old ≤ 64 }
-    ensures { shown_by (λ read. (sketch_of read.0, read.1)) result ≡ supply_stage text.now at (sketch_of draft) }
+    ensures { Takes sketch_of (λ text at. supply_stage text at (sketch_of draft)) cursor.old cursor.new result }
 {
-    let mut cursor = Cursor { text, at };
-    lines::list(&mut cursor, lines::SUPPLIES, supplies)?;
-    let draft = feed_all(draft, supplies)?;
-    Ok((draft, cursor.at))
+    lines::list(cursor, lines::SUPPLIES, supplies)?;
+    feed_all(draft, supplies)
 }
 
 // The third and the fourth line: the tails and the heads of the arcs.
 fn arc_lines(
-    text: &[u8],
-    at: usize,
+    cursor: &mut Cursor<'_>,
     draft: Draft,
     tails: &mut [i64],
     heads: &mut [i64],
-) -> Result<(Draft, usize), RecordFault>
+) -> Result<Draft, RecordFault>
     requires pairs { length tails.old ≡ length heads.old }
     requires few { length tails.old ≤ 256 }
-    ensures { shown_by (λ read. (sketch_of read.0, read.1)) result ≡ arc_stage text.now at (sketch_of draft) (length tails.old) }
+    ensures { Takes sketch_of (λ text at. arc_stage text at (sketch_of draft) (length tails.old)) cursor.old cursor.new result }
 {
-    let mut cursor = Cursor { text, at };
-    lines::list(&mut cursor, lines::TAILS, tails)?;
-    lines::list(&mut cursor, lines::HEADS, heads)?;
-    let draft = lay_all(draft, tails, heads)?;
-    Ok((draft, cursor.at))
+    lines::list(cursor, lines::TAILS, tails)?;
+    lines::list(cursor, lines::HEADS, heads)?;
+    lay_all(draft, tails, heads)
 }
 
 // The first four lines: a draft of the whole network.
-pub(crate) fn network_lines<W: Recorded>(text: &[u8], places: usize) -> Result<Network, RecordFault>
-    ensures shown { shown_by (λ net. ((sketch_of net.draft, net.arcs), net.at)) result ≡ network_stage text.now W.Written.sign places }
+pub(crate) fn network_lines<W: Recorded>(
+    cursor: &mut Cursor<'_>,
+    places: usize,
+) -> Result<Network, RecordFault>
+    requires { cursor.old.at ≡ 0 }
+    ensures shown { Takes (λ net. (sketch_of net.draft, net.arcs)) (λ text _. network_stage text W.Written.LETTER places) cursor.old cursor.new result }
     ensures arcs { IfOk result (λ net. (net.arcs ≤ 256) × (net.arcs ≤ places)) }
 {
-    let Begun {
-        draft,
-        nodes,
-        arcs,
-        at,
-    } = net_line::<W>(text, places)?;
+    let Begun { draft, nodes, arcs } = net_line::<W>(cursor, places)?;
     let mut supplies = [0; MOST_NODES];
     let mut tails = [0; MOST_ARCS];
     let mut heads = [0; MOST_ARCS];
-    let (draft, at) = supply_line(text, at, draft, &mut supplies[0..nodes])?;
-    let (draft, at) = arc_lines(text, at, draft, &mut tails[0..arcs], &mut heads[0..arcs])?;
-    Ok(Network { draft, arcs, at })
+    let draft = supply_line(cursor, draft, &mut supplies[..nodes])?;
+    let draft = arc_lines(cursor, draft, &mut tails[..arcs], &mut heads[..arcs])?;
+    Ok(Network { draft, arcs })
 }

@@ -1,6 +1,6 @@
 // What reading and writing a record refuse.
 ghost use Rattle.std.specs.Prelude.{◌≡◌};
-ghost use Rattle.record.specs.Faults.{cost_at, draft_at, record_refusal, record_spot, writing_refusal};
+ghost use Rattle.record.specs.Faults.{record_refusal, record_spot, writing_refusal};
 ghost use Rattle.record.specs.declared.faults.RecordFault.TheVariants.{Form};
 
 use cost::refusals::{CostFault, Layer, Refusal};
@@ -39,28 +39,6 @@ impl From<Malformed> for RecordFault {
 
     fn from(malformed: Malformed) -> RecordFault {
         RecordFault::Form(malformed.offset)
-    }
-}
-
-impl Spot {
-    // What a step of the draft answers, with the spot that it took its numbers from.
-    pub(crate) fn draft<T>(self, answer: Result<T, DraftFault>) -> Result<T, RecordFault>
-        ensures { result ≡ draft_at self answer }
-    {
-        match answer {
-            Ok(value) => Ok(value),
-            Err(fault) => Err(RecordFault::Draft(fault, self)),
-        }
-    }
-
-    // What filling a cost answers, with the spot that its row stands in.
-    pub(crate) fn cost<T>(self, answer: Result<T, CostFault>) -> Result<T, RecordFault>
-        ensures { result ≡ cost_at self answer }
-    {
-        match answer {
-            Ok(value) => Ok(value),
-            Err(fault) => Err(RecordFault::Cost(fault, self)),
-        }
     }
 }
 

@@ -82,8 +82,8 @@ pub fn write<W: Recorded>(
     costs: &[W],
     bytes: &mut [u8],
 ) -> Result<usize, WritingFault>
-    ensures outcome { Writes (length (book_of sheet.now).arcs) (length costs.now) (record_text W.Written.sign (book_of sheet.now) (map W.Written.row costs.now)) result bytes.old bytes.new }
-    ensures back { IfOk result (λ n. ReadsBack (record { letter = W.Written.sign; long = W.Written.long; refuses = W.Written.refuses }) (book_of sheet.now) (map W.Written.row costs.now) (take n bytes.new)) }
+    ensures outcome { Writes (length (book_of sheet.now).arcs) (length costs.now) (record_text W.Written.LETTER (book_of sheet.now) (map W.Written.row costs.now)) result bytes.old bytes.new }
+    ensures back { IfOk result (λ n. ReadsBack (record { letter = W.Written.LETTER; long = W.Written.long; refuses = W.Written.refuses }) (book_of sheet.now) (map W.Written.row costs.now) (take n bytes.new)) }
     ensures means { map W.Cost.meaning costs.now ≡ map W.Written.means (map W.Written.row costs.now) }
 {
     let nodes = sheet.node_count();
@@ -95,7 +95,7 @@ pub fn write<W: Recorded>(
     let tails = tails_of(sheet);
     let heads = heads_of(sheet);
     let outline = Outline {
-        start: &[b'n', b'e', b't', b' ', W::sign() as u8],
+        start: &[b'n', b'e', b't', b' ', W::LETTER as u8],
         counts: &[nodes as i64, arcs as i64],
         supplies: &supplies[0..nodes],
         tails: &tails[0..arcs],

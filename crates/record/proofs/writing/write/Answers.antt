@@ -30,10 +30,10 @@ returns g c =
     let more : to_z w64 c.arc_count-arcs.result ≡ pos (length book.arcs) = omega (arith, ints, arcs, length-take sheet.arc_count sheet.table.arcs, sheet.few_arcs) in
     let counts = ap (λ (n : ℤ). n ∷ to_z w64 c.arc_count-arcs.result ∷ []) some ∙ ap (λ (m : ℤ). pos (length book.nodes) ∷ m ∷ []) more in
     let each : length c.args.costs.now ≡ length book.arcs = omega (arith, arcs, c.if-costs-arcs.false) in
-    let start = ap (λ (letter : ℕ). 110 ∷ 101 ∷ 116 ∷ 32 ∷ letter ∷ []) c.sign.ensures in
+    let start = ap (λ (letter : ℕ). 110 ∷ 101 ∷ 116 ∷ 32 ∷ letter ∷ []) c.LETTER.ensures in
     let same = same_network start counts (front_part c.supplies_of-supplies.result _ nodes c.supplies_of-supplies.ensures.list) (front_part c.tails_of-tails.result _ arcs c.tails_of-tails.ensures.list) (front_part c.heads_of-heads.result _ arcs c.heads_of-heads.ensures.list) in
-    let outcome = writes_by (record_text g.W.Written.sign book rows) c.args.bytes.now _ _ (ap (λ (front : List ℕ). front ++ row_lines rows) same) each c.write_whole.ensures.answer c.write_whole.ensures.bytes in
-    let kind : Kind = record { letter = g.W.Written.sign; long = g.W.Written.long; refuses = g.W.Written.refuses } in
+    let outcome = writes_by (record_text g.W.Written.LETTER book rows) c.args.bytes.now _ _ (ap (λ (front : List ℕ). front ++ row_lines rows) same) each c.write_whole.ensures.answer c.write_whole.ensures.bytes in
+    let kind : Kind = record { letter = g.W.Written.LETTER; long = g.W.Written.long; refuses = g.W.Written.refuses } in
     let laws = g.met.W.Written in
     let fits = g.met.W.Recorded in
     let good : (x : g.row.W.Denot) → Good kind (g.W.Written.row x) = λ x. record {
@@ -45,7 +45,7 @@ returns g c =
     record {
       outcome = outcome;
       back =
-          write_back kind sheet rows c.write_whole.result c.write_whole.new.bytes fits.visible.0 (length-map c.args.costs.now g.W.Written.row ∙ each)
+          write_back kind sheet rows c.write_whole.result c.write_whole.new.bytes fits.legible.0 (length-map c.args.costs.now g.W.Written.row ∙ each)
           (good_rows kind g.W.Written.row good c.args.costs.now)
           (written_text _ _ _ c.write_whole.result c.args.bytes.now c.write_whole.new.bytes outcome);
       means = all_mean g.W.Written.row g.W.Cost.meaning g.W.Written.means fits.meant c.args.costs.now;
