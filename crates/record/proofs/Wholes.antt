@@ -1,5 +1,5 @@
 -- A whole text that is written or refused for want of room.
-use Rattle.std.proofs.Common.{◌≡◌, ℕ, ◌-◌, ◌<◌, ◌≤◌, true, false, eqb, leb, List, length, take, ℤ, Some, None, Ok, Err, Option, Result, sym, refl, ap, ◌∙◌, arith}
+use Rattle.std.proofs.Common.{◌≡◌, ℕ, ◌<◌, ◌≤◌, true, false, eqb, leb, List, length, ℤ, Some, None, Ok, Err, Option, Result, sym, refl, ap, ◌∙◌, arith}
 use Rattle.std.proofs.lemmas.Bool.{ne_eqb}
 use Rattle.std.proofs.lemmas.Bool.Decides.{nat_tests}
 use Rattle.cost.specs.Places.{kept_or, unless}
@@ -52,6 +52,3 @@ same_network {s} {s'} {c} {c'} {xs} {xs'} {ts} {ts'} {hs} {hs'} e₁ e₂ e₃ e
     ∙ ap (λ (z : List ℤ). network_text s' c' z ts hs) e₃
     ∙ ap (λ (z : List ℤ). network_text s' c' xs' z hs) e₄
     ∙ ap (λ (z : List ℤ). network_text s' c' xs' ts' z) e₅
-
-pub front_part : {n long : ℕ} (xs all : List ℤ) → n ≡ long → take long xs ≡ all → take (n - 0) xs ≡ all
-front_part xs all is e = ap (λ (k : ℕ). take k xs) (omega arith) ∙ e

@@ -1,11 +1,9 @@
 -- What the refusals of a record carry, case by case.
 use Rattle.std.specs.Prelude.{ℕ}
 use Rattle.cost.specs.Refusals.{refusal, cost_refusal}
-use Rattle.cost.specs.declared.refusals.CostFault.{CostFault}
 use Rattle.cost.specs.declared.refusals.Layer.TheVariants as layer
 use Rattle.cost.specs.declared.refusals.Refusal.{Refusal}
 use Rattle.ledger.specs.Faults.{draft_refusal}
-use Rattle.ledger.specs.declared.faults.DraftFault.{DraftFault}
 use Rattle.record.specs.declared.faults.RecordFault.{RecordFault}
 use Rattle.record.specs.declared.faults.RecordFault.TheVariants.{Form, Space, Draft, Cost}
 use Rattle.record.specs.declared.faults.Spot.{Spot}

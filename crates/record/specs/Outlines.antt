@@ -5,4 +5,4 @@ use Rattle.record.specs.declared.outlines.Outline.{Outline}
 
 -- The first four lines of an outline.
 abbrev pub outline_text : Outline → List ℕ
-outline_text o = network_text o.start.now o.counts.now o.supplies.now o.tails.now o.heads.now
+outline_text o = network_text o.start o.counts o.supplies.items o.ends.tails.items o.ends.heads.items

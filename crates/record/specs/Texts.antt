@@ -25,12 +25,15 @@ abbrev pub network_text : List ℕ → List ℤ → List ℤ → List ℤ → Li
 network_text start counts supplies tails heads =
     line start counts ++ (line (codes "sup") supplies ++ (line (codes "from") tails ++ line (codes "to") heads))
 
--- The text of a book whose costs have these rows; the letter is that of their kind.
-unfoldable pub record_text : ℕ → Book → List (List ℤ) → List ℕ
-record_text letter book rows =
+-- The first four lines of a book; the letter is that of the kind of its costs.
+abbrev pub book_text : ℕ → Book → List ℕ
+book_text letter book =
     network_text (net_start letter) (pos (length book.nodes) ∷ pos (length book.arcs) ∷ [])
     (supplies_of book.nodes) (tails_of book.arcs) (heads_of book.arcs)
-    ++ row_lines rows
+
+-- The text of a book whose costs have these rows; the letter is that of their kind.
+unfoldable pub record_text : ℕ → Book → List (List ℤ) → List ℕ
+record_text letter book rows = book_text letter book ++ row_lines rows
 
 -- Why a text of so many bytes is not written: too little room.
 abbrev pub no_room : ℕ → ℕ → Option WritingFault

@@ -1,24 +1,31 @@
-// What is written of a book: its counts, supplies and ends as lists of numbers.
-ghost use Rattle.std.specs.Prelude.{◌≡◌, ◌+◌, ◌<◌, ◌≤◌, length, take, pos, slice_index_or};
+// What is written of a book before its rows: its counts, supplies and ends as lists of numbers.
+ghost use Rattle.std.specs.Prelude.{◌≡◌, ◌+◌, ◌<◌, ◌≤◌, length, pos, slice_index_or};
 ghost use Rattle.network.specs.Records.{no_arc, no_node};
 ghost use Rattle.sheet.specs.Sheets.{book_of};
 ghost use Rattle.text.specs.Writing.{HasRoom, Appends};
 ghost use Rattle.record.specs.Outlines.{outline_text};
-ghost use Rattle.record.specs.Texts.{heads_of, supplies_of, tails_of};
+ghost use Rattle.record.specs.Texts.{book_text, heads_of, supplies_of, tails_of};
 
+use arrayvec::ArrayVec;
 use record_form::lines;
 use record_form::setting::{line_length, write_line};
 use sheet::sheets::{MOST_ARCS, MOST_NODES, Sheet};
 use text::writing::Writer;
 
 // The first four lines: how the first line starts, its counts, and the lists of the other three.
-#[derive(Clone, Copy)]
-pub(crate) struct Outline<'a> {
-    pub start: &'a [u8],
-    pub counts: &'a [i64],
-    pub supplies: &'a [i64],
-    pub tails: &'a [i64],
-    pub heads: &'a [i64],
+#[derive(Drop)]
+pub(crate) struct Outline {
+    start: [u8; 5],
+    counts: [i64; 2],
+    supplies: ArrayVec<i64, MOST_NODES>,
+    ends: Ends,
+}
+
+// The tails and the heads of arcs, as the numbers of their nodes.
+#[derive(Drop)]
+struct Ends {
+    tails: ArrayVec<i64, MOST_ARCS>,
+    heads: ArrayVec<i64, MOST_ARCS>,
 }
 
 // The supply of the node at a place.
@@ -26,10 +33,7 @@ fn supply_at(sheet: &Sheet, place: usize) -> i64
     requires { place < length (book_of sheet.now).nodes }
     ensures { result ≡ (slice_index_or (book_of sheet.now).nodes place no_node).supply }
 {
-    match sheet.supply_of(place as i64 + 1) {
-        Ok(supply) => supply,
-        Err(_) => 0,
-    }
+    sheet.supply_of(place as i64 + 1).unwrap()
 }
 
 // The ends of the arc at a place, as the numbers of its nodes.
@@ -38,65 +42,59 @@ fn ends_at(sheet: &Sheet, place: usize) -> (i64, i64)
     ensures tail { result.0 ≡ pos ((slice_index_or (book_of sheet.now).arcs place no_arc).tail + 1) }
     ensures head { result.1 ≡ pos ((slice_index_or (book_of sheet.now).arcs place no_arc).head + 1) }
 {
-    match sheet.ends_of(place as i64 + 1) {
-        Ok((tail, head)) => (tail as i64, head as i64),
-        Err(_) => (0, 0),
-    }
+    let (tail, head) = sheet.ends_of(place as i64 + 1).unwrap();
+    (tail as i64, head as i64)
 }
 
-// The supplies of all nodes, at the front of an array.
-pub(crate) fn supplies_of(sheet: &Sheet) -> [i64; MOST_NODES]
-    ensures list { take (length (book_of sheet.now).nodes) result ≡ supplies_of (book_of sheet.now).nodes }
-    ensures long { length result ≡ 64 }
+// The supplies of all nodes.
+fn supplies_of(sheet: &Sheet) -> ArrayVec<i64, MOST_NODES>
+    ensures { result.items ≡ supplies_of (book_of sheet.now).nodes }
 {
-    let mut supplies = [0; MOST_NODES];
-    for v in 0..sheet.node_count() {
-        supplies[v] = supply_at(sheet, v);
+    let mut supplies = ArrayVec::new();
+    for place in 0..sheet.node_count() {
+        supplies.push(supply_at(sheet, place));
     }
     supplies
 }
 
-// The tails of all arcs, at the front of an array.
-pub(crate) fn tails_of(sheet: &Sheet) -> [i64; MOST_ARCS]
-    ensures list { take (length (book_of sheet.now).arcs) result ≡ tails_of (book_of sheet.now).arcs }
-    ensures long { length result ≡ 256 }
+// The ends of all arcs.
+fn ends_of(sheet: &Sheet) -> Ends
+    ensures tails { result.tails.items ≡ tails_of (book_of sheet.now).arcs }
+    ensures heads { result.heads.items ≡ heads_of (book_of sheet.now).arcs }
 {
-    let mut tails = [0; MOST_ARCS];
-    for a in 0..sheet.arc_count() {
-        let (tail, _) = ends_at(sheet, a);
-        tails[a] = tail;
+    let mut tails = ArrayVec::new();
+    let mut heads = ArrayVec::new();
+    for place in 0..sheet.arc_count() {
+        let (tail, head) = ends_at(sheet, place);
+        tails.push(tail);
+        heads.push(head);
     }
-    tails
+    Ends { tails, heads }
 }
 
-// The heads of all arcs, at the front of an array.
-pub(crate) fn heads_of(sheet: &Sheet) -> [i64; MOST_ARCS]
-    ensures list { take (length (book_of sheet.now).arcs) result ≡ heads_of (book_of sheet.now).arcs }
-    ensures long { length result ≡ 256 }
-{
-    let mut heads = [0; MOST_ARCS];
-    for a in 0..sheet.arc_count() {
-        let (_, head) = ends_at(sheet, a);
-        heads[a] = head;
+impl Outline {
+    // The outline of a book; the letter is that of the kind of its costs.
+    pub(crate) fn of(sheet: &Sheet, letter: char) -> Outline
+        requires { letter < 128 }
+        ensures { outline_text result ≡ book_text letter (book_of sheet.now) }
+    {
+        Outline {
+            start: [b'n', b'e', b't', b' ', letter as u8],
+            counts: [sheet.node_count() as i64, sheet.arc_count() as i64],
+            supplies: supplies_of(sheet),
+            ends: ends_of(sheet),
+        }
     }
-    heads
-}
 
-impl Outline<'_> {
     // How long the first four lines are.
     pub(crate) fn length(&self) -> usize
-        requires counts { length self.now.counts.now ≤ 256 }
-        requires supplies { length self.now.supplies.now ≤ 256 }
-        requires tails { length self.now.tails.now ≤ 256 }
-        requires heads { length self.now.heads.now ≤ 256 }
-        requires start { length self.now.start.now ≤ 256 }
         ensures length { result ≡ length (outline_text self.now) }
         ensures short { result ≤ 100000 }
     {
-        let first = line_length(self.start, self.counts);
-        let second = line_length(lines::SUPPLIES, self.supplies);
-        let third = line_length(lines::TAILS, self.tails);
-        let fourth = line_length(lines::HEADS, self.heads);
+        let first = line_length(&self.start, &self.counts);
+        let second = line_length(lines::SUPPLIES, self.supplies.as_slice());
+        let third = line_length(lines::TAILS, self.ends.tails.as_slice());
+        let fourth = line_length(lines::HEADS, self.ends.heads.as_slice());
         first + second + third + fourth
     }
 
@@ -105,9 +103,9 @@ impl Outline<'_> {
         requires { HasRoom writer.old (outline_text self.now) }
         ensures { Appends (outline_text self.now) writer.old writer.new }
     {
-        write_line(writer, self.start, self.counts);
-        write_line(writer, lines::SUPPLIES, self.supplies);
-        write_line(writer, lines::TAILS, self.tails);
-        write_line(writer, lines::HEADS, self.heads);
+        write_line(writer, &self.start, &self.counts);
+        write_line(writer, lines::SUPPLIES, self.supplies.as_slice());
+        write_line(writer, lines::TAILS, self.ends.tails.as_slice());
+        write_line(writer, lines::HEADS, self.ends.heads.as_slice());
     }
 }

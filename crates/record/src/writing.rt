@@ -10,7 +10,7 @@ ghost use Rattle.record.specs.Texts.{no_room, record_text};
 ghost use Rattle.record.specs.Theorems.{ReadsBack};
 
 use crate::faults::WritingFault;
-use crate::outlines::{Outline, heads_of, supplies_of, tails_of};
+use crate::outlines::Outline;
 use cost::written::Recorded;
 use record_form::lines::COST;
 use record_form::setting::{line_length, write_line};
@@ -52,16 +52,11 @@ fn write_rows<W: Recorded>(writer: &mut Writer<'_>, costs: &[W])
 
 // Writes an outline and the lines of the costs, if there is room for all of it.
 fn write_whole<W: Recorded>(
-    outline: &Outline<'_>,
+    outline: &Outline,
     costs: &[W],
     bytes: &mut [u8],
 ) -> Result<usize, WritingFault>
-    requires counts { length outline.now.counts.now ≤ 256 }
-    requires supplies { length outline.now.supplies.now ≤ 256 }
-    requires tails { length outline.now.tails.now ≤ 256 }
-    requires heads { length outline.now.heads.now ≤ 256 }
-    requires start { length outline.now.start.now ≤ 256 }
-    requires costs { length costs.now ≤ 256 }
+    requires { length costs.now ≤ 256 }
     ensures answer { result ≡ unless (no_room (length (outline_text outline.now ++ row_lines (map W.Written.row costs.now))) (length bytes.old)) (length (outline_text outline.now ++ row_lines (map W.Written.row costs.now))) }
     ensures bytes { bytes.new ≡ kept_or bytes.old (no_room (length (outline_text outline.now ++ row_lines (map W.Written.row costs.now))) (length bytes.old)) (written bytes.old 0 (outline_text outline.now ++ row_lines (map W.Written.row costs.now))) }
 {
@@ -86,20 +81,9 @@ pub fn write<W: Recorded>(
     ensures back { IfOk result (λ n. ReadsBack (record { letter = W.Written.LETTER; long = W.Written.long; refuses = W.Written.refuses }) (book_of sheet.now) (map W.Written.row costs.now) (take n bytes.new)) }
     ensures means { map W.Cost.meaning costs.now ≡ map W.Written.means (map W.Written.row costs.now) }
 {
-    let nodes = sheet.node_count();
-    let arcs = sheet.arc_count();
-    if costs.len() != arcs {
+    if costs.len() != sheet.arc_count() {
         return Err(WritingFault::List);
     }
-    let supplies = supplies_of(sheet);
-    let tails = tails_of(sheet);
-    let heads = heads_of(sheet);
-    let outline = Outline {
-        start: &[b'n', b'e', b't', b' ', W::LETTER as u8],
-        counts: &[nodes as i64, arcs as i64],
-        supplies: &supplies[0..nodes],
-        tails: &tails[0..arcs],
-        heads: &heads[0..arcs],
-    };
+    let outline = Outline::of(sheet, W::LETTER);
     write_whole(&outline, costs, bytes)
 }

@@ -2,15 +2,8 @@
 use Rattle.std.proofs.Common.{◌≡◌, ℕ, ◌-◌, ◌≤◌, true, false, List, [], ◌∷◌, ◌++◌, length, take, replicate, ℤ, pos, Some, None, Ok, Err, codes, Option, sym, ap, ◌∙◌, arith}
 use Rattle.std.proofs.lemmas.List.{length-take-le, take_all}
 use Rattle.cost.specs.Limits.{within}
-use Rattle.text.specs.Steps.{Step, past, and_then, number_at, word_at, space_at, line_end_at, numbers_at}
+use Rattle.text.specs.Steps.{Step, past, number_at, word_at, space_at, line_end_at, numbers_at}
 use Rattle.record_form.specs.Lines.{count_at, first_line_at, list_at, row_at, row_end_at, row_told_at}
-
--- a step, and what follows it
-pub then_made : {S T : Type 0} (step : Step S) (next : S → ℕ → Step T) {x : S} {at : ℕ} → step ≡ Ok (x, at) → and_then step next ≡ next x at
-then_made {S} step next e = ap (λ (s : Step S). and_then s next) e
-
-pub then_refused : {S T : Type 0} (step : Step S) (next : S → ℕ → Step T) {offset : ℕ} → step ≡ Err offset → and_then step next ≡ Err offset
-then_refused {S} step next e = ap (λ (s : Step S). and_then s next) e
 
 module _ (text : List ℕ) (at : ℕ) where
   -- ---- a count

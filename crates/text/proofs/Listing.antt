@@ -8,10 +8,6 @@ abbrev pub onto : List ℤ → Step (List ℤ) → Step (List ℤ)
 onto xs (Ok read) = Ok (xs ++ read.0, read.1)
 onto xs (Err offset) = Err offset
 
-onto_none : (step : Step (List ℤ)) → step ≡ onto [] step
-onto_none (Ok read) = refl
-onto_none (Err offset) = refl
-
 onto_onto : (xs ys : List ℤ) (step : Step (List ℤ)) → onto xs (onto ys step) ≡ onto (xs ++ ys) step
 onto_onto xs ys (Ok read) = ap (λ (zs : List ℤ). Ok (zs, read.1)) (sym (append_assoc xs ys read.0))
 onto_onto xs ys (Err offset) = refl

@@ -1,8 +1,8 @@
 -- Bytes that are written over others, one after another.
-use Rattle.std.proofs.Common.{◌≡◌, ℕ, ◌+◌, ◌≤◌, List, [], ◌++◌, length, take, drop, sym, refl, ap, ◌∙◌, arith}
+use Rattle.std.proofs.Common.{◌≡◌, ℕ, ◌+◌, ◌≤◌, List, ◌++◌, length, take, drop, sym, refl, ap, ◌∙◌, arith}
 use lib.Seq.{paste}
 use Rattle.std.proofs.lemmas.List.Edits.{paste_all, paste-paste, length-paste}
-use Rattle.std.proofs.lemmas.List.{length-append, take-append-drop}
+use Rattle.std.proofs.lemmas.List.{length-append}
 use Rattle.text.specs.Writing.{HasRoom, Appends, written}
 use Rattle.text.specs.declared.writing.Writer.{Writer}
 
@@ -19,9 +19,6 @@ length_written : (into : List ℕ) (at : ℕ) (bytes : List ℕ) → at + length
 length_written into at bytes room =
     sym (ap length (paste_all into at bytes (length bytes) refl)) ∙ length-paste into at bytes (length bytes) room (omega arith)
 
-written_none : (into : List ℕ) (at : ℕ) → into ≡ written into at []
-written_none into at = sym (ap (λ (n : ℕ). take at into ++ drop n into) (omega arith) ∙ take-append-drop at into)
-
 -- calls of a writer, one after another
 module _ {w u : Writer} (a b : List ℕ) (room : HasRoom w (a ++ b)) (one : Appends a w u) where
   pub room_then : HasRoom u b
@@ -37,9 +34,6 @@ module _ {w u : Writer} (a b : List ℕ) (room : HasRoom w (a ++ b)) (one : Appe
         ∙ written_on w.bytes.now w.at a b (omega (arith, room));
     at = omega (arith, one.at, two.at, length-append a b);
   }
-
-pub appends_none : (w : Writer) → Appends [] w w
-appends_none w = record { same = refl; bytes = written_none w.bytes.now w.at; at = omega arith }
 
 pub room_front : (w : Writer) (a b : List ℕ) → HasRoom w (a ++ b) → HasRoom w a
 room_front w a b room = omega (arith, room, length-append a b)

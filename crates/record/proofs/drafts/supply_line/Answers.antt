@@ -1,8 +1,7 @@
-use Rattle.std.proofs.Common.{sym, refl, ap, ◌∙◌}
+use Rattle.std.proofs.Common.{sym, refl, ◌∙◌}
 use Rattle.std.proofs.lemmas.Result.{err_from_is_err_and}
 use Rattle.sheet.specs.Drafts.{sketch_of}
 use Rattle.text.proofs.Calls.{call_made, call_refused}
-use Rattle.record.specs.Readings.{up_to}
 use Rattle.record.proofs.Stages.{supply_form, supply_read, shown_up_to}
 use Rattle.record.proofs.drafts.supply_line.Goals as goal
 

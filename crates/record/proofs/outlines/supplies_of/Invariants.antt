@@ -1,7 +1,7 @@
-use Rattle.std.proofs.Common.{◌≡◌, length, take}
+use Rattle.std.proofs.Common.{◌≡◌, take}
 use Rattle.sheet.specs.Sheets.{book_of}
 use Rattle.record.specs.Texts.{supplies_of}
 use Rattle.record.proofs.outlines.supplies_of.Given as goal
 
-abbrev pub invariant-loop-v : goal.invariant-loop-v
-invariant-loop-v l = (take l.v l.supplies ≡ take l.v (supplies_of (book_of l.sheet).nodes)) × (length l.supplies ≡ 64)
+abbrev pub invariant-loop-place : goal.invariant-loop-place
+invariant-loop-place l = l.supplies.items ≡ take l.place (supplies_of (book_of l.sheet).nodes)
