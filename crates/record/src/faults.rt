@@ -15,7 +15,7 @@ pub struct Spot {
 }
 
 // Why a text is refused.
-#[derive(Clone, Copy, Debug)]
+#[derive(Clone, Copy, Debug, PartialEq, Eq)]
 pub enum RecordFault {
     // the offset of the first byte that is not of the form
     Form(usize),
@@ -26,7 +26,7 @@ pub enum RecordFault {
 }
 
 // Why a record is not written.
-#[derive(Clone, Copy, Debug)]
+#[derive(Clone, Copy, Debug, PartialEq, Eq)]
 pub enum WritingFault {
     // another number of costs than the sheet has arcs
     List,
@@ -42,43 +42,31 @@ impl From<Malformed> for RecordFault {
     }
 }
 
-impl RecordFault {
-    pub fn refusal(self) -> Refusal
-        ensures { result ≡ record_refusal self }
-    {
-        match self {
-            RecordFault::Form(offset) => Refusal {
-                number: 15,
-                place: offset,
-                layer: Layer::Record,
-            },
-            RecordFault::Space(needed) => Refusal {
-                number: 16,
-                place: needed,
-                layer: Layer::Record,
-            },
-            RecordFault::Draft(fault, _) => fault.refusal(),
-            RecordFault::Cost(fault, _) => fault.refusal(),
-        }
-    }
+impl From<RecordFault> for Refusal {
+    ghost from_gives = { λ fault r. r ≡ record_refusal fault };
 
-    // The line and the field that a refusal from below was met at.
-    pub fn spot(self) -> Spot
-        ensures { result ≡ record_spot self }
-    {
-        match self {
-            RecordFault::Form(_) | RecordFault::Space(_) => Spot { line: 0, field: 0 },
-            RecordFault::Draft(_, spot) => spot,
-            RecordFault::Cost(_, spot) => spot,
+    // Reports the form and the space as refusals of the record, and what was met below as it stands.
+    fn from(fault: RecordFault) -> Refusal {
+        let (number, place) = match fault {
+            RecordFault::Form(offset) => (15, offset),
+            RecordFault::Space(needed) => (16, needed),
+            RecordFault::Draft(below, _) => return Refusal::from(below),
+            RecordFault::Cost(below, _) => return Refusal::from(below),
+        };
+        Refusal {
+            number,
+            place,
+            layer: Layer::Record,
         }
     }
 }
 
-impl WritingFault {
-    pub fn refusal(self) -> Refusal
-        ensures { result ≡ writing_refusal self }
-    {
-        let (number, place) = match self {
+impl From<WritingFault> for Refusal {
+    ghost from_gives = { λ fault r. r ≡ writing_refusal fault };
+
+    // Reports a fault of writing by its number, its place and the layer of records.
+    fn from(fault: WritingFault) -> Refusal {
+        let (number, place) = match fault {
             WritingFault::List => (2, 0),
             WritingFault::Space(needed) => (16, needed),
         };
@@ -87,5 +75,33 @@ impl WritingFault {
             place,
             layer: Layer::Record,
         }
+    }
+}
+
+impl RecordFault {
+    // The refusal that is reported for a fault of reading.
+    pub fn refusal(self) -> Refusal
+        ensures { result ≡ record_refusal self }
+    {
+        Refusal::from(self)
+    }
+
+    // The line and the field that a refusal from below was met at.
+    pub fn spot(self) -> Spot
+        ensures { result ≡ record_spot self }
+    {
+        match self {
+            RecordFault::Form(_) | RecordFault::Space(_) => Spot { line: 0, field: 0 },
+            RecordFault::Draft(_, spot) | RecordFault::Cost(_, spot) => spot,
+        }
+    }
+}
+
+impl WritingFault {
+    // The refusal that is reported for a fault of writing.
+    pub fn refusal(self) -> Refusal
+        ensures { result ≡ writing_refusal self }
+    {
+        Refusal::from(self)
     }
 }
