@@ -95,7 +95,7 @@ impl fmt::Display for Answer {
 impl From<RecordFault> for Answer {
     // The refusal of a record, with the spot that it names.
     fn from(fault: RecordFault) -> Answer {
-        Answer::Refused(fault.refusal(), fault.spot())
+        Answer::Refused(Refusal::from(fault), fault.spot())
     }
 }
 
