@@ -2,53 +2,41 @@
 // under `time` to see what a reading takes.
 #![tactic(auto)]
 
-use anyhow::anyhow;
+use anyhow::{anyhow, ensure};
+use ledger::faults::DraftFault;
 use record::reading::read;
 use record::writing::write;
 use sheet::sheets::drafting::Draft;
 use sheet::sheets::drafting::steps::size;
-use sheet::sheets::{MOST_ARCS, Sheet};
+use sheet::sheets::{MOST_ARCS, MOST_NODES, Sheet};
 use stepped_cost::stepped::Stepped;
 
 const TURNS: usize = 200;
 
-// The book of 64 nodes and 256 arcs; absent where the draft refuses a step.
-fn largest() -> Option<Sheet> {
-    let Ok(nodes) = size(64) else {
-        return None;
-    };
-    let mut draft = Draft::new(nodes);
-    for _ in 0..64 {
-        if draft.feed(-100_000).is_err() {
-            return None;
-        }
+// The book of 64 nodes and 256 arcs.
+fn largest() -> Result<Sheet, DraftFault> {
+    let mut draft = Draft::new(size(64)?);
+    for _ in 0..MOST_NODES {
+        draft.feed(-100_000)?;
     }
     for _ in 0..MOST_ARCS {
-        if draft.lay(64, 63).is_err() {
-            return None;
-        }
+        draft.lay(64, 63)?;
     }
     let mut sheet = Sheet::blank();
     draft.open(&mut sheet);
-    Some(sheet)
+    Ok(sheet)
 }
 
 // Reads the text many times, and answers how often it was accepted.
 fn accepted(text: &[u8], places: &mut [Stepped]) -> usize {
     let mut sheet = Sheet::blank();
-    let mut count = 0;
-    for turn in 0..TURNS {
-        if read(text, &mut sheet, places).is_ok() && count <= turn {
-            count += 1;
-        }
-    }
-    count
+    (0..TURNS)
+        .filter(|_| read(text, &mut sheet, places).is_ok())
+        .count()
 }
 
 fn run(rt: &HostRuntime) -> anyhow::Result<()> {
-    let Some(sheet) = largest() else {
-        return Err(anyhow!("the draft is refused"));
-    };
+    let sheet = largest().map_err(|_| anyhow!("the draft is refused"))?;
     let cost = Stepped {
         first: 1_000,
         opening: -1_000_000_000,
@@ -58,14 +46,13 @@ fn run(rt: &HostRuntime) -> anyhow::Result<()> {
     };
     let mut costs = [cost; MOST_ARCS];
     let mut bytes = [0; 65_536];
-    match write(&sheet, &costs, &mut bytes) {
-        Ok(length) if length <= bytes.len() => {
-            let count = accepted(&bytes[0..length], &mut costs);
-            println!(rt; "a record of {length} bytes was read {count} times")?;
-            Ok(())
-        }
-        _ => Err(anyhow!("the record is not written")),
-    }
+    let length = write(&sheet, &costs, &mut bytes).map_err(|_| anyhow!(
+        "the record is not written"
+    ))?;
+    ensure!(length <= bytes.len(), "the record is not written");
+    let count = accepted(&bytes[..length], &mut costs);
+    println!(rt; "a record of {length} bytes was read {count} times")?;
+    Ok(())
 }
 
 fn main(rt: HostRuntime) -> anyhow::Result<()> {

@@ -2,14 +2,14 @@
 use cost::refusals::{Layer, Refusal};
 use cost::written::Recorded;
 use quadratic_cost::quadratic::Quadratic;
-use record::faults::{RecordFault, Spot};
+use record::faults::Spot;
 use record::reading::read;
 use sheet::sheets::Sheet;
 use std::process::Abort;
 use std::test::Fail;
 use stepped_cost::stepped::Stepped;
 
-// A text and its whole refusal; number 0 where it is accepted.
+// A text and its whole refusal.
 #[derive(Clone, Copy)]
 pub(crate) struct Case<'a> {
     pub text: &'a [u8],
@@ -65,12 +65,6 @@ pub(crate) const fn untouched_square() -> Quadratic {
     Quadratic { a: 77, b: 0, c: 0 }
 }
 
-// The fault is the one that the case names.
-fn check_fault(rt: &impl Abort, fault: RecordFault, case: Case) {
-    assert_eq!(rt; fault.refusal(), case.refusal);
-    assert_eq!(rt; fault.spot(), case.spot);
-}
-
 // The text is refused as the case says; the sheet, which held a book before, is then blank.
 pub(crate) fn check_refused<W: Recorded + Copy>(
     rt: &impl Abort,
@@ -81,17 +75,13 @@ pub(crate) fn check_refused<W: Recorded + Copy>(
     let mut one = [untouched()];
     let before = read(b"net S 1 0\nsup 5\nfrom\nto\n", &mut sheet, &mut one);
     assert!(rt; before.is_ok() && sheet.node_count() == 1);
-    match read(case.text, &mut sheet, places) {
-        Ok(()) => {
-            assert_eq!(rt; case.refusal.number, 0);
-            Ok(())
-        },
-        Err(fault) => {
-            check_fault(rt, fault, case);
-            assert!(rt; sheet.node_count() == 0 && sheet.arc_count() == 0);
-            Ok(())
-        }
-    }
+    let Err(fault) = read(case.text, &mut sheet, places) else {
+        return Err(Fail::new("it was read"));
+    };
+    assert_eq!(rt; Refusal::from(fault), case.refusal);
+    assert_eq!(rt; fault.spot(), case.spot);
+    assert!(rt; sheet.node_count() == 0 && sheet.arc_count() == 0);
+    Ok(())
 }
 
 pub(crate) fn check_all<W: Recorded + Copy>(

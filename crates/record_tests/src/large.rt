@@ -40,8 +40,6 @@ fn the_largest_record_comes_back(rt: HostRuntime) -> Result<(), Fail> {
     let mut places = [untouched(); 256];
     read(&bytes[0..length], &mut again, &mut places)?;
     assert!(rt; again.node_count() == 64 && again.arc_count() == 256);
-    for place in places.iter() {
-        assert!(rt; *place == cost);
-    }
+    assert!(rt; places == costs);
     Ok(())
 }

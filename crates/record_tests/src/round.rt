@@ -65,13 +65,11 @@ fn check_unwritten(
     answer: Result<usize, WritingFault>,
     refusal: Refusal,
 ) -> Result<(), Fail> {
-    match answer {
-        Ok(_) => Err(Fail::new("it was written")),
-        Err(fault) => {
-            assert_eq!(rt; fault.refusal(), refusal);
-            Ok(())
-        },
-    }
+    let Err(fault) = answer else {
+        return Err(Fail::new("it was written"));
+    };
+    assert_eq!(rt; Refusal::from(fault), refusal);
+    Ok(())
 }
 
 // Another number of costs is refused first, and then too little room; the bytes are as they were.
