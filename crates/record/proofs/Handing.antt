@@ -7,7 +7,6 @@ use Rattle.cost.specs.Places.{kept_or}
 use Rattle.record.specs.Faults.{spot}
 use Rattle.record.specs.Readings.{fed, laid, unless_refused}
 use Rattle.record.specs.declared.faults.RecordFault.TheVariants.{Draft}
-use Rattle.record.specs.declared.faults.Spot.{Spot}
 
 -- the supplies from a place on
 module _ (k : Sketch) (xs : List ℤ) (i : ℕ) where
@@ -52,6 +51,3 @@ module _ (k : Sketch) (ts hs : List ℤ) (i : ℕ) where
 
   pub laid_all : length ts ≤ i → laid k (i + 2) (drop i ts) (drop i hs) ≡ Ok k
   laid_all h = ap (λ (xs : List ℤ). laid k (i + 2) xs (drop i hs)) (drop_all i ts h)
-
-pub same_spot : (s : Spot) {line field : ℕ} → s.line ≡ line → s.field ≡ field → s ≡ spot line field
-same_spot s {line} {field} one two = ap (λ (l : ℕ). spot l s.field) one ∙ ap (spot line) two

@@ -16,7 +16,7 @@ use Rattle.record_form.specs.Lines.{first_line_at, list_at, row_at}
 use Rattle.record_form.specs.declared.lines.Counts.{Counts}
 use Rattle.text.specs.Walks.{text_of}
 use Rattle.text.specs.declared.cursor.Cursor.{Cursor}
-use Rattle.record.specs.Faults.{spot}
+use Rattle.record.specs.Faults.{line_spot, spot}
 use Rattle.record.specs.Outcomes.{Takes, shown_by}
 use Rattle.record.specs.Readings.{Kind, Stage, up_to, fed, laid, begun_by, accepted_row, net_stage, supply_stage, arc_stage, network_stage, row_stage}
 use Rattle.record.specs.declared.faults.RecordFault.{RecordFault}
@@ -106,7 +106,7 @@ module _ (kind : Kind) (text : List ℕ) (at line : ℕ) where
   unfolding row_stage
   row_form e = rw e
 
-  pub row_refused : {row : List ℤ} {next : ℕ} {f : CostFault} → row_at text at kind.long ≡ Ok (row, next) → kind.refuses row ≡ Some f → row_stage kind text at line ≡ Err (Cost f (spot line 0))
+  pub row_refused : {row : List ℤ} {next : ℕ} {f : CostFault} → row_at text at kind.long ≡ Ok (row, next) → kind.refuses row ≡ Some f → row_stage kind text at line ≡ Err (Cost f (line_spot line))
   unfolding row_stage
   row_refused {row = row} {next = next} e some = rw e (ap (λ (r : Option CostFault). up_to next (accepted_row r line row)) some)
 

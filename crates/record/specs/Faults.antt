@@ -1,5 +1,5 @@
 -- What the refusals of a record carry, case by case.
-use Rattle.std.specs.Prelude.{ℕ}
+use Rattle.std.specs.Prelude.{ℕ, Some, None, Option}
 use Rattle.cost.specs.Refusals.{refusal, cost_refusal}
 use Rattle.cost.specs.declared.refusals.Layer.TheVariants as layer
 use Rattle.cost.specs.declared.refusals.Refusal.{Refusal}
@@ -12,7 +12,11 @@ use Rattle.record.specs.declared.faults.WritingFault.TheVariants as writing
 
 -- A line and a field of it.
 abbrev pub spot : ℕ → ℕ → Spot
-spot line field = record { line = line; field = field }
+spot line field = record { line = line; field = Some field }
+
+-- A whole line.
+abbrev pub line_spot : ℕ → Spot
+line_spot line = record { line = line; field = None }
 
 -- The form and the space are refusals of the record; a refusal from below keeps its number, its place and its layer.
 abbrev pub record_refusal : RecordFault → Refusal
@@ -21,12 +25,12 @@ record_refusal (Space needed) = refusal 16 needed layer.Record
 record_refusal (Draft fault place) = draft_refusal fault
 record_refusal (Cost fault place) = cost_refusal fault
 
--- A refusal from below has the line and the field that it was met at.
-abbrev pub record_spot : RecordFault → Spot
-record_spot (Form offset) = spot 0 0
-record_spot (Space needed) = spot 0 0
-record_spot (Draft fault place) = place
-record_spot (Cost fault place) = place
+-- A refusal from below has the line and the field that it was met at, and the form and the space have none.
+abbrev pub record_spot : RecordFault → Option Spot
+record_spot (Form offset) = None
+record_spot (Space needed) = None
+record_spot (Draft fault place) = Some place
+record_spot (Cost fault place) = Some place
 
 -- Every refusal of writing is one of the record.
 abbrev pub writing_refusal : WritingFault → Refusal

@@ -12,7 +12,7 @@ use Rattle.ledger.specs.declared.faults.DraftFault.TheVariants.{Number}
 use Rattle.text.specs.Steps.{Step, text_end_at}
 use Rattle.record_form.specs.Lines.{first_line_at, list_at, row_at}
 use Rattle.record_form.specs.declared.lines.Counts.{Counts}
-use Rattle.record.specs.Faults.{spot}
+use Rattle.record.specs.Faults.{line_spot, spot}
 use Rattle.record.specs.declared.faults.RecordFault.{RecordFault}
 use Rattle.record.specs.declared.faults.RecordFault.TheVariants.{Form, Space, Draft, Cost}
 use Rattle.record.specs.declared.faults.Spot.{Spot}
@@ -97,7 +97,7 @@ network_stage text letter places =
 
 -- A row that is refused is refused in its line, with no field.
 abbrev pub accepted_row : Option CostFault → ℕ → List ℤ → Result (List ℤ) RecordFault
-accepted_row (Some fault) line row = Err (Cost fault (spot line 0))
+accepted_row (Some fault) line row = Err (Cost fault (line_spot line))
 accepted_row None line row = Ok row
 
 -- A line of a cost gives its row.

@@ -36,7 +36,7 @@ fn feed_all(draft: Draft, supplies: &[i64]) -> Result<Draft, RecordFault>
     for (i, supply) in supplies.iter().enumerate() {
         let spot = Spot {
             line: 2,
-            field: i + 2,
+            field: Some(i + 2),
         };
         draft
             .feed(*supply)
@@ -52,12 +52,16 @@ fn lay_all(draft: Draft, tails: &[i64], heads: &[i64]) -> Result<Draft, RecordFa
     ensures { shown_by sketch_of result ≡ laid (sketch_of draft) 2 tails.now heads.now }
 {
     let mut draft = draft;
-    let mut spot = Spot { line: 4, field: 2 };
+    let mut field = 2;
     for (tail, head) in tails.iter().zip(heads) {
+        let spot = Spot {
+            line: 4,
+            field: Some(field),
+        };
         draft
             .lay(*tail, *head)
             .map_err(|fault| RecordFault::Draft(fault, spot))?;
-        spot.field += 1;
+        field += 1;
     }
     Ok(draft)
 }
@@ -74,7 +78,10 @@ fn net_line<W: Recorded>(cursor: &mut Cursor<'_>, places: usize) -> Result<Begun
     if places < arcs {
         return Err(RecordFault::Space(arcs));
     }
-    let spot = Spot { line: 1, field: 3 };
+    let spot = Spot {
+        line: 1,
+        field: Some(3),
+    };
     let size = size(counts.nodes).map_err(|fault| RecordFault::Draft(fault, spot))?;
     Ok(Begun {
         draft: Draft::new(size),

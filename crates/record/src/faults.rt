@@ -7,11 +7,11 @@ use cost::refusals::{CostFault, Layer, Refusal};
 use ledger::faults::DraftFault;
 use text::cursor::Malformed;
 
-// A line of a text, from 1, and a field of it, from 1; both are 0 where a refusal names neither.
+// A line of a text, from 1, and the field of it, from 1, if the refusal is of one field alone.
 #[derive(Clone, Copy, Debug, PartialEq, Eq)]
 pub struct Spot {
     pub line: usize,
-    pub field: usize,
+    pub field: Option<usize>,
 }
 
 // Why a text is refused.
@@ -86,13 +86,13 @@ impl RecordFault {
         Refusal::from(self)
     }
 
-    // The line and the field that a refusal from below was met at.
-    pub fn spot(self) -> Spot
+    // The line and the field that a refusal from below was met at; a refusal of the record itself names none.
+    pub fn spot(self) -> Option<Spot>
         ensures { result ≡ record_spot self }
     {
         match self {
-            RecordFault::Form(_) | RecordFault::Space(_) => Spot { line: 0, field: 0 },
-            RecordFault::Draft(_, spot) | RecordFault::Cost(_, spot) => spot,
+            RecordFault::Form(_) | RecordFault::Space(_) => None,
+            RecordFault::Draft(_, spot) | RecordFault::Cost(_, spot) => Some(spot),
         }
     }
 }

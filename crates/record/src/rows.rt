@@ -23,7 +23,7 @@ fn cost_line<W: Recorded + Copy>(
 {
     let row = lines::row::<W>(cursor)?;
     let mut cost = *place;
-    let spot = Spot { line, field: 0 };
+    let spot = Spot { line, field: None };
     cost.fill(row.as_slice())
         .map_err(|fault| RecordFault::Cost(fault, spot))?;
     *place = cost;

@@ -1,5 +1,7 @@
 // Refusals from below, each with its line and its field, and the space for the costs.
-use crate::checks::{check_all, check_refused, malformed, refused, untouched, untouched_square};
+use crate::checks::{
+    at, check_all, check_refused, malformed, on, refused, untouched, untouched_square,
+};
 use cost::refusals::Layer;
 use record::reading::read;
 use sheet::sheets::Sheet;
@@ -13,39 +15,35 @@ fn draft(rt: HostRuntime) -> Result<(), Fail> {
         &rt,
         &mut [untouched(); 3],
         &[
-            refused(b"net S 2 0\nsup 100001 0\nx", 3, 1, draft, 2, 2),
-            refused(b"net S 2 0\nsup 0 -100001\nx", 3, 1, draft, 2, 3),
+            refused(b"net S 2 0\nsup 100001 0\nx", 3, 1, draft, at(2, 2)),
+            refused(b"net S 2 0\nsup 0 -100001\nx", 3, 1, draft, at(2, 3)),
             refused(
                 b"net S 2 2\nsup 0 0\nfrom 3 1\nto 2 2\nx",
                 8,
                 1,
                 draft,
-                4,
-                2,
+                at(4, 2),
             ),
             refused(
                 b"net S 2 2\nsup 0 0\nfrom 1 0\nto 2 2\nx",
                 8,
                 1,
                 draft,
-                4,
-                3,
+                at(4, 3),
             ),
             refused(
                 b"net S 2 2\nsup 0 0\nfrom 1 1\nto 2 3\nx",
                 8,
                 2,
                 draft,
-                4,
-                3,
+                at(4, 3),
             ),
             refused(
                 b"net S 2 2\nsup 0 0\nfrom 1 2\nto 2 2\nx",
                 9,
                 2,
                 draft,
-                4,
-                3,
+                at(4, 3),
             ),
         ],
     )
@@ -63,48 +61,42 @@ fn stepped(rt: HostRuntime) -> Result<(), Fail> {
                 3,
                 1,
                 cost,
-                5,
-                0,
+                on(5),
             ),
             refused(
                 b"net S 2 1\nsup 0 0\nfrom 1\nto 2\nc 0 0 1000000001\nx",
                 3,
                 2,
                 cost,
-                5,
-                0,
+                on(5),
             ),
             refused(
                 b"net S 2 1\nsup 0 0\nfrom 1\nto 2\nc 1 0 0 0 1\nx",
                 3,
                 3,
                 cost,
-                5,
-                0,
+                on(5),
             ),
             refused(
                 b"net S 2 1\nsup 0 0\nfrom 1\nto 2\nc 1 0 0 1 1000001\nx",
                 3,
                 4,
                 cost,
-                5,
-                0,
+                on(5),
             ),
             refused(
                 b"net S 2 1\nsup 0 0\nfrom 1\nto 2\nc 2 9999 0 1 1 0 0\nx",
                 4,
                 2,
                 cost,
-                5,
-                0,
+                on(5),
             ),
             refused(
                 b"net S 2 1\nsup 0 0\nfrom 1\nto 2\nc 2 0 0 1 1 4 3\nx",
                 5,
                 2,
                 cost,
-                5,
-                0,
+                on(5),
             ),
         ],
     )
@@ -122,32 +114,28 @@ fn quadratic(rt: HostRuntime) -> Result<(), Fail> {
                 3,
                 1,
                 cost,
-                5,
-                0,
+                on(5),
             ),
             refused(
                 b"net Q 2 1\nsup 0 0\nfrom 1\nto 2\nc 0 -1 0\nx",
                 3,
                 2,
                 cost,
-                5,
-                0,
+                on(5),
             ),
             refused(
                 b"net Q 2 1\nsup 0 0\nfrom 1\nto 2\nc 0 0 10001\nx",
                 3,
                 3,
                 cost,
-                5,
-                0,
+                on(5),
             ),
             refused(
                 b"net Q 2 1\nsup 0 0\nfrom 1\nto 2\nc 0 1000000 2\nx",
                 6,
                 0,
                 cost,
-                5,
-                0,
+                on(5),
             ),
         ],
     )
@@ -160,7 +148,7 @@ fn space(rt: HostRuntime) -> Result<(), Fail> {
     check_refused(
         &rt,
         &mut [untouched(); 3],
-        refused(b"net S 2 4\nx", 16, 4, Layer::Record, 0, 0),
+        refused(b"net S 2 4\nx", 16, 4, Layer::Record, None),
     )?;
     check_refused(&rt, &mut [untouched(); 3], malformed(b"net S 2 3\nx", 10))
 }

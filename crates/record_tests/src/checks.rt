@@ -14,7 +14,7 @@ use stepped_cost::stepped::Stepped;
 pub(crate) struct Case<'a> {
     pub text: &'a [u8],
     pub refusal: Refusal,
-    pub spot: Spot,
+    pub spot: Option<Spot>,
 }
 
 // A text that is not of the form from an offset on.
@@ -26,7 +26,7 @@ pub(crate) const fn malformed<'a>(text: &'a [u8], offset: usize) -> Case<'a> {
             place: offset,
             layer: Layer::Record,
         },
-        spot: Spot { line: 0, field: 0 },
+        spot: None,
     }
 }
 
@@ -36,8 +36,7 @@ pub(crate) const fn refused<'a>(
     number: usize,
     place: usize,
     layer: Layer,
-    line: usize,
-    field: usize,
+    spot: Option<Spot>,
 ) -> Case<'a> {
     Case {
         text,
@@ -46,8 +45,21 @@ pub(crate) const fn refused<'a>(
             place,
             layer,
         },
-        spot: Spot { line, field },
+        spot,
     }
+}
+
+// A field of a line.
+pub(crate) const fn at(line: usize, field: usize) -> Option<Spot> {
+    Some(Spot {
+        line,
+        field: Some(field),
+    })
+}
+
+// A whole line.
+pub(crate) const fn on(line: usize) -> Option<Spot> {
+    Some(Spot { line, field: None })
 }
 
 // A cost whose row is of no record in the tables.

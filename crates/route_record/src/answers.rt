@@ -4,7 +4,7 @@ ghost use Rattle.std.specs.Iterator.{IsFinite};
 use chain::calls::Call;
 use chain::replaying::replay;
 use cost::refusals::Refusal;
-use cost::written::{Recorded, Written};
+use cost::written::Recorded;
 use ledger::faults::SheetFault;
 use ledger::settling::Amounts;
 use quadratic_cost::quadratic::Quadratic;
@@ -20,8 +20,6 @@ pub(crate) const MOST_BYTES: usize = 65_536;
 // Where the letter stands in a record: behind the word `net` and a space.
 const LETTER_AT: usize = 4;
 
-const NO_SPOT: Spot = Spot { line: 0, field: 0 };
-
 // The answer to a record: what its sheet comes to, or why it is refused.
 #[derive(Drop)]
 pub(crate) enum Answer {
@@ -29,16 +27,18 @@ pub(crate) enum Answer {
     Settled(Amounts, Sheet),
     // the sheet has the marks of a set that bars every routing
     Barred(Refusal, Sheet),
-    Refused(Refusal, Spot),
+    // the spot of a record, where the refusal names one
+    Refused(Refusal, Option<Spot>),
 }
 
-// Writes the line of a refusal.
+// Writes the line of a refusal, with 0 for a line or a field that it does not name.
 fn write_refused<W: fmt::Write>(
     f: &mut fmt::Formatter<W>,
     refusal: Refusal,
-    spot: Spot,
+    spot: Option<Spot>,
 ) -> fmt::Result {
-    let Spot { line, field } = spot;
+    let line = spot.map_or(0, |spot| spot.line);
+    let field = spot.and_then(|spot| spot.field).unwrap_or(0);
     writeln!(f, "refused {refusal} {line} {field}")
 }
 
@@ -84,7 +84,7 @@ impl fmt::Display for Answer {
                 write_loads(f, sheet)
             }
             Answer::Barred(refusal, sheet) => {
-                write_refused(f, *refusal, NO_SPOT)?;
+                write_refused(f, *refusal, None)?;
                 write_set(f, sheet)
             }
             Answer::Refused(refusal, spot) => write_refused(f, *refusal, *spot),
@@ -104,7 +104,7 @@ fn settled<W: Recorded + Copy>(sheet: &mut Sheet, costs: &mut [W], calls: &[Call
     match replay(sheet, costs, calls).outlook {
         Ok(amounts) => Answer::Settled(amounts, *sheet),
         Err(fault @ SheetFault::Barred(_)) => Answer::Barred(Refusal::from(fault), *sheet),
-        Err(fault) => Answer::Refused(Refusal::from(fault), NO_SPOT),
+        Err(fault) => Answer::Refused(Refusal::from(fault), None),
     }
 }
 
@@ -126,16 +126,22 @@ fn letter_of(text: &[u8]) -> Option<char> {
 }
 
 // The answer to a record, whose kind of cost its letter tells.
-pub(crate) fn answer_to(text: &[u8]) -> Answer {
-    if text.len() > MOST_BYTES {
-        Answer::from(RecordFault::Form(MOST_BYTES))
-    } else if letter_of(text) == Some(Quadratic::LETTER) {
-        answer_with(
+fn answer_by_letter(text: &[u8]) -> Answer {
+    match letter_of(text) {
+        Some('Q') => answer_with(
             text,
             &mut [Quadratic::default(); MOST_ARCS],
             &[Call::Settle],
-        )
+        ),
+        _ => answer_with(text, &mut [Stepped::default(); MOST_ARCS], &[Call::Settle]),
+    }
+}
+
+// The answer to a text, which may be too long to be read.
+pub(crate) fn answer_to(text: &[u8]) -> Answer {
+    if text.len() > MOST_BYTES {
+        Answer::from(RecordFault::Form(MOST_BYTES))
     } else {
-        answer_with(text, &mut [Stepped::default(); MOST_ARCS], &[Call::Settle])
+        answer_by_letter(text)
     }
 }
