@@ -1,6 +1,8 @@
 -- The surpluses of all nodes are gathered arc by arc.
-use Rattle.std.proofs.Common.{◌≡◌, ℕ, ◌+◌, ◌<◌, ◌≤◌, Bool, true, false, eqb, List, [], length, ℤ, pos, ◌+ℤ◌, ◌-ℤ◌, neg_ℤ, refl, arith}
+use Rattle.std.proofs.Common.{◌≡◌, ℕ, ◌+◌, ◌<◌, ◌≤◌, Bool, true, false, eqb, List, [], length, set, ℤ, pos, ◌+ℤ◌, ◌-ℤ◌, neg_ℤ, sym, refl, ap, ◌∙◌, inl, inr, arith}
 use Rattle.std.proofs.lemmas.Int.{ints}
+use Rattle.std.proofs.lemmas.List.{get_or-set_same, get_or-set_other}
+use Rattle.std.proofs.lemmas.Bool.{cases_eq, eq-eqb, ne_eqb, cond-true, cond-false}
 use Rattle.cost.specs.Meaning.{Between}
 use Rattle.network.specs.Sums.{counted}
 use Rattle.network.specs.Network.{Net}
@@ -10,6 +12,14 @@ use Rattle.network.specs.declared.graph.Graph.{Graph}
 use Rattle.network.proofs.Graphs.{graph_sound}
 use Rattle.network.proofs.Sums.{sum_more, sum_within}
 use Rattle.network.proofs.Gains.{gain_of, surplus_by}
+
+-- one number of a list changes by an amount
+pub set_by : (xs : List ℤ) (p v : ℕ) (y x : ℤ) → p < length xs → y ≡ numbers xs p +ℤ x → numbers (set xs p y) v ≡ numbers xs v +ℤ counted (eqb p v) x
+set_by xs p v y x within is =
+    elim (cases_eq v p) [
+      | inl at ↦ rw at (get_or-set_same xs p y (pos 0) within ∙ is ∙ ap (λ z. numbers xs p +ℤ z) (sym (cond-true (eqb p p) x (pos 0) (eq-eqb p p refl))))
+      | inr away ↦ omega (arith, ints, get_or-set_other xs p v y (pos 0) away, cond-false (eqb p v) x (pos 0) (ne_eqb p v (λ e. away (sym e))))
+    ]
 
 pub counted_neg : (b : Bool) (x : ℤ) → counted b (neg_ℤ x) ≡ neg_ℤ (counted b x)
 counted_neg true x = refl
