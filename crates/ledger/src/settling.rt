@@ -1,12 +1,12 @@
 // What settling refuses beforehand, and the amounts of what a book then holds.
-ghost use Rattle.std.specs.Prelude.{◌≡◌, ℕ, ◌<◌, ◌≤◌, map, length, pos, negsuc, slice_index_or};
+ghost use Rattle.std.specs.Prelude.{◌≡◌, ℕ, ◌<◌, ◌≤◌, [], map, length, pos, negsuc, slice_index_or};
 ghost use Rattle.std.specs.Fn.{FnReturnsAt};
 ghost use Rattle.std.specs.Result.{result_err};
 ghost use Rattle.cost.specs.Meaning.{Between};
 ghost use Rattle.network.specs.Sums.{count};
 ghost use Rattle.network.specs.Network.{charge, floor, Routing};
 ghost use Rattle.network.specs.Graphs.{net_in};
-ghost use Rattle.network.specs.Records.{numbers};
+ghost use Rattle.network.specs.Records.{net_of, numbers};
 ghost use Rattle.search.specs.Settled.{loads_of, prices_of, marks_of};
 ghost use Rattle.ledger.specs.Settling.{settle_refusal, supply_sum};
 
@@ -15,7 +15,7 @@ use arrayvec::ArrayVec;
 use cost::costs::Cost;
 use network::charge::charge_of;
 use network::graph::Graph;
-use network::records::{MOST_ARCS, MOST_NODES, Node};
+use network::records::{Arc, MOST_ARCS, MOST_NODES, Node};
 
 // What a settled book comes to: the charge of its loads, and the floor of its prices.
 #[derive(Clone, Copy, Debug, PartialEq, Eq)]
@@ -70,12 +70,13 @@ pub fn check_settling(graph: &Graph<'_>, costs: usize) -> Result<(), SheetFault>
 }
 
 // The charge of the loads that the arcs carry.
-pub fn charge_carried<C: Cost>(graph: &Graph<'_>, costs: &[C]) -> i64
-    requires costed { length costs.now ≡ length graph.now.arcs.now }
-    requires ranges { Routing (net_in graph.now (map C.Cost.meaning costs.now)) (loads_of graph.now.arcs.now) }
-    ensures { result ≡ charge (net_in graph.now (map C.Cost.meaning costs.now)) (loads_of graph.now.arcs.now) }
+pub fn charge_carried<C: Cost>(arcs: &[Arc], costs: &[C]) -> i64
+    requires limit { length arcs.now ≤ MOST_ARCS }
+    requires costed { length costs.now ≡ length arcs.now }
+    requires ranges { Routing (net_of [] arcs.now (map C.Cost.meaning costs.now)) (loads_of arcs.now) }
+    ensures { result ≡ charge (net_of [] arcs.now (map C.Cost.meaning costs.now)) (loads_of arcs.now) }
 {
-    let loads: ArrayVec<i64, MOST_ARCS> = numbers_of(graph.arcs, |arc| arc.load);
+    let loads: ArrayVec<i64, MOST_ARCS> = numbers_of(arcs, |arc| arc.load);
     charge_of(costs, loads.as_slice())
 }
 

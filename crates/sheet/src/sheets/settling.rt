@@ -51,7 +51,7 @@ impl Sheet {
         }
         self.stand(Event::Settle);
         let graph = self.graph();
-        let charge = charge_carried(&graph, costs);
+        let charge = charge_carried(graph.arcs, costs);
         let floor = floor_held(&graph, costs);
         Ok(Amounts { charge, floor })
     }

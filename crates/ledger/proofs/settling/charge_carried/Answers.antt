@@ -1,7 +1,6 @@
 -- The loads that are listed are those that the arcs carry.
-use Rattle.std.proofs.Common.{◌≡◌, ℕ, ◌<◌, map, length, ◌∙◌, rules}
-use Rattle.network.specs.Graphs.{net_in}
-use Rattle.network.specs.Records.{numbers}
+use Rattle.std.proofs.Common.{◌≡◌, ℕ, ◌<◌, [], map, length, ◌∙◌, rules}
+use Rattle.network.specs.Records.{net_of, numbers}
 use Rattle.network.proofs.Nets.{charge_is}
 use Rattle.network.proofs.Changes.{charge_same}
 use Rattle.search.specs.Settled.{loads_of}
@@ -9,10 +8,10 @@ use Rattle.ledger.proofs.settling.charge_carried.Goals as goal
 
 pub returns : goal.returns
 returns g c =
-    let graph = c.args.graph.now in
+    let arcs = c.args.arcs.now in
     let costs = map g.C.Cost.meaning c.args.costs.now in
     let loads = c.as_slice.result.now in
-    let listed : length loads ≡ length graph.arcs.now = search rules in
-    let each : (k : ℕ) → k < length graph.arcs.now → numbers loads k ≡ loads_of graph.arcs.now k = search rules in
-    let sum = charge_is graph.nodes.now graph.arcs.now costs loads listed ∙ charge_same (net_in graph costs) (numbers loads) (loads_of graph.arcs.now) each in
+    let listed : length loads ≡ length arcs = search rules in
+    let each : (k : ℕ) → k < length arcs → numbers loads k ≡ loads_of arcs k = search rules in
+    let sum = charge_is [] arcs costs loads listed ∙ charge_same (net_of [] arcs costs) (numbers loads) (loads_of arcs) each in
     search rules
