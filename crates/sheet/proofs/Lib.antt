@@ -1,3 +1,2 @@
-mod Mapped
 pub mod Tables
 mod Fronts

@@ -8,26 +8,31 @@ ghost use Rattle.sheet.specs.Sheets.{book_of};
 ghost use Rattle.ledger.specs.Books.{opened, reset_arc, reset_node};
 ghost use Rattle.ledger.specs.Calls.{supplied, supply_refusal, swap_refusal, swapped, with_supply};
 
-use crate::sheets::{Sheet, Table};
+use crate::sheets::Sheet;
 use cost::costs::Cost;
 use ledger::faults::SheetFault;
 pub use ledger::limits::SUPPLIES;
 use ledger::standing::Event;
 use network::records::{Arc, Node};
 
-impl Table {
-    // The same nodes and arcs, without prices, marks and loads.
-    fn reset(self) -> Table
-        ensures nodes { result.nodes ≡ map reset_node self.nodes }
-        ensures arcs { result.arcs ≡ map reset_arc self.arcs }
-    {
-        let nodes = self.nodes.map(|node| Node {
-            price: 0,
-            marked: false,
-            ..node
-        });
-        let arcs = self.arcs.map(|arc| Arc { load: 0, ..arc });
-        Table { nodes, arcs }
+// Records are reset in place, a loop for each kind of them: to map the arrays was tried, and takes many times as long.
+
+// Takes price and mark from each node.
+fn reset_nodes(nodes: &mut [Node])
+    ensures { nodes.new ≡ map reset_node nodes.old }
+{
+    for node in nodes.iter_mut() {
+        node.price = 0;
+        node.marked = false;
+    }
+}
+
+// Takes the load from each arc.
+fn reset_arcs(arcs: &mut [Arc])
+    ensures { arcs.new ≡ map reset_arc arcs.old }
+{
+    for arc in arcs.iter_mut() {
+        arc.load = 0;
     }
 }
 
@@ -36,8 +41,9 @@ impl Sheet {
     fn reopen(&mut self)
         ensures { book_of self.new ≡ opened (book_of self.old).nodes (book_of self.old).arcs }
     {
-        self.table = self.table.reset();
-        self.stand(Event::Edit);
+        let _ = self.standing.meet(Event::Edit);
+        reset_nodes(&mut self.table.nodes);
+        reset_arcs(&mut self.table.arcs);
     }
 
     // Writes the supply of a node into its record.

@@ -8,14 +8,14 @@ pub invariant_of-self : goal.invariant_of-self
 invariant_of-self c =
     let s = c.args.self.now in
     record {
-      node_places = ap length c.reset-self.ensures.nodes ∙ reset_places s;
-      arc_places = ap length c.reset-self.ensures.arcs ∙ reset_arc_places s;
+      node_places = ap length c.reset_nodes.ensures ∙ reset_places s;
+      arc_places = ap length c.reset_arcs.ensures ∙ reset_arc_places s;
       few_nodes = s.few_nodes;
       few_arcs = s.few_arcs;
-      tails = λ a h. simp (c.reset-self.ensures.arcs, reset_arc_at s a h) (s.tails a h);
-      heads = λ a h. simp (c.reset-self.ensures.arcs, reset_arc_at s a h) (s.heads a h);
-      supplies = λ v h. simp (c.reset-self.ensures.nodes, reset_node_at s v h) (s.supplies v h);
-      loops = λ a h. simp (c.reset-self.ensures.arcs, reset_arc_at s a h) (s.loops a h);
+      tails = λ a h. simp (c.reset_arcs.ensures, reset_arc_at s a h) (s.tails a h);
+      heads = λ a h. simp (c.reset_arcs.ensures, reset_arc_at s a h) (s.heads a h);
+      supplies = λ v h. simp (c.reset_nodes.ensures, reset_node_at s v h) (s.supplies v h);
+      loops = λ a h. simp (c.reset_arcs.ensures, reset_arc_at s a h) (s.loops a h);
     }
 
 pub returns : goal.returns
