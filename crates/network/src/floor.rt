@@ -41,10 +41,10 @@ impl Node {
 
 impl Arc {
     // The price of the tail less the price of the head.
-    fn tension(&self, prices: &[i64]) -> i64
+    pub fn tension(&self, prices: &[i64]) -> i64
         requires tail { self.now.tail < length prices.now }
         requires head { self.now.head < length prices.now }
-        requires limits { Within 100000000 prices.now }
+        requires limits { Between (negsuc 999999999999999) (pos 1000000000000000) (numbers prices.now self.now.tail) × Between (negsuc 999999999999999) (pos 1000000000000000) (numbers prices.now self.now.head) }
         ensures { result ≡ numbers prices.now self.now.tail -ℤ numbers prices.now self.now.head }
     {
         prices[self.tail] - prices[self.head]

@@ -21,8 +21,8 @@ module _ (graph : Graph) (prices : List ℤ) (priced : length graph.nodes.now �
   pub head_in : arc.head < length prices
   head_in = omega (arith, head_at)
 
-  pub price_limits : Between (pos 0) (pos 1000000000000000) (numbers prices arc.tail) × Between (pos 0) (pos 1000000000000000) (numbers prices arc.head)
-  price_limits = (modest arc.tail tail_at, modest arc.head head_at)
+  pub price_limits : Between (negsuc 999999999999999) (pos 1000000000000000) (numbers prices arc.tail) × Between (negsuc 999999999999999) (pos 1000000000000000) (numbers prices arc.head)
+  price_limits = (omega (arith, ints, modest arc.tail tail_at), omega (arith, ints, modest arc.head head_at))
 
   pub tension_limits : Between (negsuc 999999999999999) (pos 1000000000000000) (numbers prices arc.tail -ℤ numbers prices arc.head)
   tension_limits = omega (arith, ints, modest arc.tail tail_at, modest arc.head head_at)

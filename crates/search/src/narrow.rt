@@ -75,16 +75,6 @@ fn turn_from<C: Cost>(cost: &C, bar: i64, load: i64) -> i64
     }
 }
 
-// The price of the tail of an arc less the price of its head.
-fn tension_of(arc: &Arc, prices: &[i64]) -> i64
-    requires tail { arc.now.tail < length prices.now }
-    requires head { arc.now.head < length prices.now }
-    requires limits { Between (pos 0) (pos 1000000000000000) (numbers prices.now arc.now.tail) × Between (pos 0) (pos 1000000000000000) (numbers prices.now arc.now.head) }
-    ensures { result ≡ numbers prices.now arc.now.tail -ℤ numbers prices.now arc.now.head }
-{
-    prices[arc.tail] - prices[arc.head]
-}
-
 // The loads of an arc that are slack within a step of its tension. A span at hand is tried first.
 fn narrowed<C: Cost>(cost: &C, tension: i64, step: i64, at_hand: Span) -> Span
     requires tension { Between (negsuc 999999999999999) (pos 1000000000000000) tension }
@@ -118,7 +108,7 @@ impl<C: Cost> Network<'_, C> {
     {
         for (a, (arc, cost)) in self.graph.arcs.iter().zip(self.costs).enumerate() {
             if due(arc) {
-                spans[a] = narrowed(cost, tension_of(arc, prices), step, spans[a]);
+                spans[a] = narrowed(cost, arc.tension(prices), step, spans[a]);
             }
         }
     }

@@ -16,8 +16,8 @@ use Rattle.search.proofs.Narrowing.{tail_in, head_in, price_limits, tension_limi
 use Rattle.search.proofs.Written.{one_renewed, one_kept}
 use Rattle.search.proofs.networks.Network.narrow.Goals as goal
 
-pub tension_of-requires : goal.tension_of-requires
-tension_of-requires g c =
+pub tension-requires : goal.tension-requires
+tension-requires g c =
     let graph = c.args.self.now.graph in
     let turn = paired_turn graph.arcs.now c.args.self.now.costs.now c.loop-a.yielded c.into_iter-a-iterator.result c.loop-a.a-iterator c.next.new.self (cc) (cc) (cc) c.loop-a.yielded_by _ _ c.in-Some.is c.next.ensures.steps in
     record { tail = tail_in graph c.args.prices.now c.requires.priced c.requires.modest (length c.loop-a.yielded) turn.1 c.in-Some.arc.now (turn.3 no_arc); head = head_in graph c.args.prices.now c.requires.priced c.requires.modest (length c.loop-a.yielded) turn.1 c.in-Some.arc.now (turn.3 no_arc); limits = price_limits graph c.args.prices.now c.requires.priced c.requires.modest (length c.loop-a.yielded) turn.1 c.in-Some.arc.now (turn.3 no_arc) }
@@ -27,8 +27,8 @@ narrowed-requires-clause-tension g c =
     let graph = c.args.self.now.graph in
     let turn = paired_turn graph.arcs.now c.args.self.now.costs.now c.loop-a.yielded c.into_iter-a-iterator.result c.loop-a.a-iterator c.next.new.self (cc) (cc) (cc) c.loop-a.yielded_by _ _ c.in-Some.is c.next.ensures.steps in
     let limits = tension_limits graph c.args.prices.now c.requires.priced c.requires.modest (length c.loop-a.yielded) turn.1 c.in-Some.arc.now (turn.3 no_arc) in
-    let fits : SFits w64 c.tension_of.result = omega (arith, ints, c.tension_of.ensures) in
-    simp to_z-of_z (omega (arith, ints, c.tension_of.ensures))
+    let fits : SFits w64 c.tension.result = omega (arith, ints, c.tension.ensures) in
+    simp to_z-of_z (omega (arith, ints, c.tension.ensures))
 
 pub offset_bounds-spans-a-then-due : goal.offset_bounds-spans-a-then-due
 offset_bounds-spans-a-then-due g c =
@@ -53,8 +53,8 @@ loop-a-preserved-then-due g c =
     let Q : ℕ → Type 0 = λ k. FnReturnsAt g.F.Fn c.args.due (arc_at graph.arcs.now k) false in
     let before : (k : ℕ) → k < length graph.arcs.now → (k < length c.loop-a.yielded) ⊎ Q k → R k (get_or c.loop-a.spans k no_span) = simp to_z-of_z at c.loop-a.invariant.2 in
     let read = cost_read g.C.Cost.meaning c.args.self.now.costs.now (length c.loop-a.yielded) c.in-Some.cost.now turn.2 (turn.4 c.in-Some.cost.now) in
-    let fits : SFits w64 c.tension_of.result = search rules in
-    let narrow : Narrow (g.C.Cost.meaning c.in-Some.cost.now) (price c.in-Some.arc.now.tail -ℤ price c.in-Some.arc.now.head) c.args.step c.narrowed.result.low c.narrowed.result.high = rw (← c.tension_of.ensures) (simp to_z-of_z at c.narrowed.ensures) in
+    let fits : SFits w64 c.tension.result = search rules in
+    let narrow : Narrow (g.C.Cost.meaning c.in-Some.cost.now) (price c.in-Some.arc.now.tail -ℤ price c.in-Some.arc.now.head) c.args.step c.narrowed.result.low c.narrowed.result.high = rw (← c.tension.ensures) (simp to_z-of_z at c.narrowed.ensures) in
     let here : R (length c.loop-a.yielded) c.narrowed.result = rw read (subst (λ (x : Arc). Narrow (g.C.Cost.meaning c.in-Some.cost.now) (price x.tail -ℤ price x.head) c.args.step c.narrowed.result.low c.narrowed.result.high) (turn.3 no_arc) narrow) in
     (search rules, tt, rw (length-append c.loop-a.yielded ((c.in-Some.a, (c.in-Some.arc, c.in-Some.cost)) ∷ []), turn.0) (simp to_z-of_z (one_renewed R c.loop-a.spans (length c.loop-a.yielded) no_span Q (length graph.arcs.now) before c.narrowed.result (omega (arith, c.requires.long)) here)))
 
