@@ -7,41 +7,44 @@ ghost use Rattle.cost.specs.declared.refusals.CostFault.{CostFault as Fault};
 
 use crate::costs::Cost;
 use crate::refusals::CostFault;
-use arrayvec::ArrayVec;
 
 pub const MOST_NUMBERS: usize = 19;
 
-// A row of at most nineteen numbers.
-#[derive(Debug, Drop, PartialEq, Eq)]
+// A row of numbers, of which the first `count` count. A row is plain data that is copied, and any content of it is a row.
+#[derive(Clone, Copy, Debug, PartialEq, Eq)]
 pub struct Row {
-    numbers: ArrayVec<i64, MOST_NUMBERS>,
+    pub count: usize,
+    pub numbers: [i64; MOST_NUMBERS],
 }
 
 impl Row {
-    // A row with no number yet.
     pub fn empty() -> Row
         ensures { numbers_of result ≡ [] }
     {
         Row {
-            numbers: ArrayVec::new(),
+            count: 0,
+            numbers: [0; MOST_NUMBERS],
         }
     }
 
-    // The numbers in their order.
+    // The numbers that count.
     pub fn as_slice(&self) -> &[i64]
         ensures { result.now ≡ numbers_of self.now }
     {
-        self.numbers.as_slice()
+        let count = self.count.min(MOST_NUMBERS);
+        &self.numbers[0..count]
     }
 
     // The numbers of a list more, as far as a row of nineteen has room for them.
     pub fn extend(&mut self, numbers: &[i64])
         ensures { numbers_of self.new ≡ take 19 (numbers_of self.old ++ numbers.now) }
     {
-        let room = self.numbers.remaining_capacity().min(numbers.len());
-        self.numbers
-            .try_extend_from_slice(&numbers[..room])
-            .unwrap();
+        for number in numbers {
+            if self.count < MOST_NUMBERS {
+                self.numbers[self.count] = *number;
+                self.count += 1;
+            }
+        }
     }
 }
 

@@ -1,15 +1,27 @@
-use Rattle.std.proofs.Common.{◌≡◌, ℕ, ◌+◌, min, List, ◌++◌, length, take, ℤ, sym, ap, ◌∙◌, arith, rules}
-use Rattle.std.proofs.Math.Seq.{take-append-add}
-use Rattle.std.proofs.lemmas.List.{take_min}
+use Rattle.std.proofs.Common.{◌≡◌, length, get_or, pos, rules}
+use Rattle.std.proofs.lemmas.List.{take_all}
+use Rattle.cost.specs.Rows.{numbers_of}
+use Rattle.cost.proofs.Room.{begun, full, further, pushed}
 use Rattle.cost.proofs.written.Row.extend.Goals as goal
+use Rattle.cost.proofs.written.Row.extend.Goals.{then-self-lt-MOST_NUMBERS, else-self-lt-MOST_NUMBERS}
 
--- a list that is filled up to a length
-filled_up : (xs ys : List ℤ) (room n : ℕ) → length xs + room ≡ n → xs ++ take (min room (length ys)) ys ≡ take n (xs ++ ys)
-filled_up xs ys room n e =
-    ap (λ (zs : List ℤ). xs ++ zs) (take_min room ys)
-    ∙ sym (ap (λ (k : ℕ). take k (xs ++ ys)) (sym e) ∙ take-append-add xs ys room)
+pub loop-number-init : goal.loop-number-init
+loop-number-init c =
+    let long : length c.args.self.now.numbers ≡ 19 = search rules in
+    (long, begun c.args.self.now.numbers c.args.self.now.count long)
+
+pub loop-number-preserved : goal.loop-number-preserved
+loop-number-preserved c =
+    let row = c.loop-number.self in
+    let number = get_or c.args.numbers.now c.loop-number.number-index (pos 0) in
+    let long = c.loop-number.invariant.0 in
+    let e = further (numbers_of c.args.self.now) c.args.numbers.now c.loop-number.number-index c.loop-number-test.true in
+    elim c.if-self-lt-MOST_NUMBERS.branch [
+      | then-self-lt-MOST_NUMBERS w ↦ (let p = pushed row.numbers row.count long number w.if-self-lt-MOST_NUMBERS.true in search rules)
+      | else-self-lt-MOST_NUMBERS w ↦ (let p = full row.numbers row.count long number w.if-self-lt-MOST_NUMBERS.false in search rules)
+    ]
 
 pub returns : goal.returns
 returns c =
-    let e = filled_up c.args.self.now.numbers.items c.args.numbers.now c.remaining_capacity.result 19 (omega arith) in
+    let all = take_all c.loop-number.number-index c.args.numbers.now c.loop-number-test.false in
     search rules
