@@ -11,7 +11,6 @@ ghost use Rattle.ledger.specs.declared.faults.SheetFault.TheVariants.{List};
 use crate::faults::SheetFault;
 pub use crate::limits::PRICES;
 use cost::costs::Cost;
-use cost::numbers::NumberFault;
 use network::charge::charge_of;
 use network::graph::Graph;
 use network::routing::first_out_of_range;
@@ -54,8 +53,6 @@ pub fn floored<C: Cost>(graph: &Graph<'_>, costs: &[C], prices: &[i64]) -> Resul
     let nodes = graph.nodes.len();
     let arcs = graph.arcs.len();
     check_lists(costs.len(), arcs, prices.len(), nodes)?;
-    if let Some(node) = PRICES.first_outside(prices) {
-        return Err(SheetFault::Number(NumberFault::Outside(node)));
-    }
+    PRICES.check_each(prices, 0)?;
     Ok(graph.floor_of(costs, prices))
 }
