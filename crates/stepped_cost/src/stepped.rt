@@ -157,7 +157,8 @@ fn count_of(numbers: &[i64]) -> Option<usize>
     ensures { result ≡ (if whole_row stepped_length numbers.now then Some (natural (slice_index_or numbers.now 0 (pos 0))) else None) }
 {
     let count = *numbers.first()?;
-    if COUNTS.contain(count) && numbers.len() == 3 + 2 * count as usize {
+    let told = Stepped::row_length(count)?;
+    if told == numbers.len() {
         Some(count as usize)
     } else {
         None
