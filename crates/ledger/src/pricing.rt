@@ -15,6 +15,17 @@ use network::charge::charge_of;
 use network::graph::Graph;
 use network::routing::first_out_of_range;
 
+// Refuses another number of costs, loads or prices than there is to be.
+pub fn check_count(given: usize, wanted: usize) -> Result<(), SheetFault>
+    ensures { result_err result ≡ needed (given == wanted) List }
+{
+    if given == wanted {
+        Ok(())
+    } else {
+        Err(SheetFault::List)
+    }
+}
+
 // Refuses another number of costs than there are arcs, and another number of loads or prices than there are to be.
 pub fn check_lists(
     costs: usize,
@@ -24,11 +35,8 @@ pub fn check_lists(
 ) -> Result<(), SheetFault>
     ensures { result_err result ≡ needed (costs == arcs && numbers == count) List }
 {
-    if costs == arcs && numbers == count {
-        Ok(())
-    } else {
-        Err(SheetFault::List)
-    }
+    check_count(costs, arcs)?;
+    check_count(numbers, count)
 }
 
 // The charge of a routing that meets the network of these nodes and arcs.

@@ -11,6 +11,7 @@ ghost use Rattle.search.specs.Settled.{loads_of, prices_of, marks_of};
 ghost use Rattle.ledger.specs.Settling.{settle_refusal, supply_sum};
 
 use crate::faults::SheetFault;
+use crate::pricing::check_count;
 use arrayvec::ArrayVec;
 use cost::costs::Cost;
 use network::charge::charge_of;
@@ -60,9 +61,7 @@ fn numbers_of<T, F: Fn(&T) -> i64, const MOST: usize>(items: &[T], number: F) ->
 pub fn check_settling(graph: &Graph<'_>, costs: usize) -> Result<(), SheetFault>
     ensures { result_err result ≡ settle_refusal graph.now.nodes.now graph.now.arcs.now costs }
 {
-    if costs != graph.arcs.len() {
-        return Err(SheetFault::List);
-    }
+    check_count(costs, graph.arcs.len())?;
     if sum_of_supplies(graph) != 0 {
         return Err(SheetFault::Unbalanced);
     }

@@ -12,6 +12,7 @@ use crate::sheets::Sheet;
 use cost::costs::Cost;
 use ledger::faults::SheetFault;
 pub use ledger::limits::SUPPLIES;
+use ledger::pricing::check_count;
 use ledger::standing::Event;
 use network::records::{Arc, Node};
 
@@ -100,9 +101,7 @@ impl Sheet {
         ensures after { book_of self.new ≡ kept_or (book_of self.old) (swap_refusal (book_of self.old) (length costs.old) arc) (opened (book_of self.old).nodes (book_of self.old).arcs) }
         ensures costs { costs.new ≡ kept_or costs.old (swap_refusal (book_of self.old) (length costs.old) arc) (swapped costs.old arc cost) }
     {
-        if costs.len() != self.arc_count {
-            return Err(SheetFault::List);
-        }
+        check_count(costs.len(), self.arc_count)?;
         let a = self.place_of_arc(arc)?;
         costs[a] = cost;
         self.reopen();
