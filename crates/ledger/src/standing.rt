@@ -31,9 +31,8 @@ impl Standing {
     {
         match (event, self) {
             (Event::Edit | Event::Settle | Event::Bar, _) => Ok(()),
-            (Event::ReadRouting, Standing::Settled) | (Event::ReadMarks, Standing::Barred) => Ok(
-                (),
-            ),
+            (Event::ReadRouting, Standing::Settled) => Ok(()),
+            (Event::ReadMarks, Standing::Barred) => Ok(()),
             (Event::ReadRouting | Event::ReadMarks, _) => Err(SheetFault::Unread),
         }
     }

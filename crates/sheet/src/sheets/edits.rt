@@ -42,7 +42,7 @@ impl Sheet {
     fn reopen(&mut self)
         ensures { book_of self.new ≡ opened (book_of self.old).nodes (book_of self.old).arcs }
     {
-        let _ = self.standing.meet(Event::Edit);
+        self.stand(Event::Edit);
         reset_nodes(&mut self.table.nodes);
         reset_arcs(&mut self.table.arcs);
     }

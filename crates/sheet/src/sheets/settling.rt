@@ -15,8 +15,8 @@ use ledger::standing::Event;
 use search::settle::{NoRouting, settle};
 
 impl Sheet {
-    // Moves the standing by an event.
-    fn stand(&mut self, event: Event)
+    // Moves the standing by an event. An edit and a settling are never refused.
+    pub(crate) fn stand(&mut self, event: Event)
         ensures nodes { (book_of self.new).nodes ≡ (book_of self.old).nodes }
         ensures arcs { (book_of self.new).arcs ≡ (book_of self.old).arcs }
         ensures standing { (book_of self.new).standing ≡ moved event (book_of self.old).standing }

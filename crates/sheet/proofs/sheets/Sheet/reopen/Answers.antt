@@ -6,7 +6,7 @@ use Rattle.sheet.proofs.sheets.Sheet.reopen.Goals as goal
 
 pub invariant_of-self : goal.invariant_of-self
 invariant_of-self c =
-    let s = c.args.self.now in
+    let s = c.stand.new.self in
     record {
       node_places = ap length c.reset_nodes.ensures ∙ reset_places s;
       arc_places = ap length c.reset_arcs.ensures ∙ reset_arc_places s;
@@ -20,7 +20,7 @@ invariant_of-self c =
 
 pub returns : goal.returns
 returns c =
-    let s = c.args.self.now in
+    let s = c.stand.new.self in
     let nodes = take-map reset_node s.node_count s.table.nodes in
     let arcs = take-map reset_arc s.arc_count s.table.arcs in
     search rules
