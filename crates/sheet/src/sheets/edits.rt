@@ -9,6 +9,7 @@ ghost use Rattle.ledger.specs.Books.{opened, reset_arc, reset_node};
 ghost use Rattle.ledger.specs.Calls.{supplied, supply_refusal, swap_refusal, swapped, with_supply};
 
 use crate::sheets::Sheet;
+use crate::sheets::lookups::place_among;
 use cost::costs::Cost;
 use ledger::faults::SheetFault;
 pub use ledger::limits::SUPPLIES;
@@ -84,7 +85,7 @@ impl Sheet {
         ensures after { book_of self.new ≡ kept_or (book_of self.old) (supply_refusal (book_of self.old) node amount) (supplied (book_of self.old) node amount) }
     {
         SUPPLIES.check(amount, 2)?;
-        let v = self.place_of_node(node)?;
+        let v = place_among(node, self.node_count)?;
         self.put_supply(v, amount);
         self.reopen();
         Ok(())
@@ -102,7 +103,7 @@ impl Sheet {
         ensures costs { costs.new ≡ kept_or costs.old (swap_refusal (book_of self.old) (length costs.old) arc) (swapped costs.old arc cost) }
     {
         check_count(costs.len(), self.arc_count)?;
-        let a = self.place_of_arc(arc)?;
+        let a = place_among(arc, self.arc_count)?;
         costs[a] = cost;
         self.reopen();
         Ok(())

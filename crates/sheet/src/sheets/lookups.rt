@@ -19,6 +19,21 @@ pub(crate) fn place_of(number: i64, count: usize) -> Option<usize>
     if place < count { Some(place) } else { None }
 }
 
+// The place, from 0, of what has this number, the first of its call, among `count`; refused where nothing has it.
+pub(crate) fn place_among(number: i64, count: usize) -> Result<usize, SheetFault>
+    ensures { result ≡ at_number (place_in count number) Ok }
+{
+    place_of(number, count).ok_or(SheetFault::Unknown(1))
+}
+
+// What is known of a node or an arc, by its number.
+fn numbered<T: Copy>(records: &[T], number: i64) -> Result<T, SheetFault>
+    ensures { (other : T) → result ≡ at_number (place_in (length records.now) number) (λ k. Ok (slice_index_or records.now k other)) }
+{
+    let place = place_among(number, records.len())?;
+    Ok(records[place])
+}
+
 impl Sheet {
     // A sheet of so many nodes, whose supplies are 0, and of no arcs.
     pub(crate) fn of_nodes(count: usize) -> Sheet
@@ -46,13 +61,13 @@ impl Sheet {
     pub fn node_count(&self) -> usize
         ensures { result ≡ length (book_of self.now).nodes }
     {
-        self.graph().nodes.len()
+        self.node_count
     }
 
     pub fn arc_count(&self) -> usize
         ensures { result ≡ length (book_of self.now).arcs }
     {
-        self.graph().arcs.len()
+        self.arc_count
     }
 
     pub fn stands(&self) -> Standing
@@ -61,34 +76,18 @@ impl Sheet {
         self.standing
     }
 
-    // The place of a node, from 0, by its number.
-    pub(crate) fn place_of_node(&self, number: i64) -> Result<usize, SheetFault>
-        ensures { result ≡ at_number (place_in (length (book_of self.now).nodes) number) Ok }
-    {
-        place_of(number, self.node_count).ok_or(SheetFault::Unknown(1))
-    }
-
-    // The place of an arc, from 0, by its number.
-    pub(crate) fn place_of_arc(&self, number: i64) -> Result<usize, SheetFault>
-        ensures { result ≡ at_number (place_in (length (book_of self.now).arcs) number) Ok }
-    {
-        place_of(number, self.arc_count).ok_or(SheetFault::Unknown(1))
-    }
-
     // What is known of a node, by its number.
     fn node(&self, number: i64) -> Result<Node, SheetFault>
         ensures { result ≡ at_number (place_in (length (book_of self.now).nodes) number) (λ v. Ok (slice_index_or (book_of self.now).nodes v no_node)) }
     {
-        let v = self.place_of_node(number)?;
-        Ok(self.table.nodes[v])
+        numbered(self.graph().nodes, number)
     }
 
     // What is known of an arc, by its number.
     fn arc(&self, number: i64) -> Result<Arc, SheetFault>
         ensures { result ≡ at_number (place_in (length (book_of self.now).arcs) number) (λ a. Ok (slice_index_or (book_of self.now).arcs a no_arc)) }
     {
-        let a = self.place_of_arc(number)?;
-        Ok(self.table.arcs[a])
+        numbered(self.graph().arcs, number)
     }
 
     // The supply of a node.
@@ -106,6 +105,8 @@ impl Sheet {
         let arc = self.arc(arc)?;
         Ok((arc.tail + 1, arc.head + 1))
     }
+
+    // Three lines each, of which the field and the event differ.
 
     // The load of an arc, while settled.
     pub fn load_of(&self, arc: i64) -> Result<i64, SheetFault>
