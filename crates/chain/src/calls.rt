@@ -2,7 +2,7 @@
 ghost use Rattle.std.specs.Prelude.{◌≡◌};
 ghost use Rattle.std.specs.Result.{result_err};
 ghost use Rattle.cost.specs.Places.{kept_or};
-ghost use Rattle.chain.specs.Steps.{after_edit, after_settling};
+ghost use Rattle.chain.specs.Steps.{after_edit, after_settling, kind_of};
 
 use ledger::faults::SheetFault;
 use ledger::settling::Amounts;
@@ -21,6 +21,19 @@ pub enum Kind {
     Supply,
     Swap,
     Settle,
+}
+
+impl<C> Call<C> {
+    // Which of the three calls it is.
+    pub fn kind(&self) -> Kind
+        ensures { result ≡ kind_of self.now }
+    {
+        match self {
+            Call::Supply { .. } => Kind::Supply,
+            Call::Swap { .. } => Kind::Swap,
+            Call::Settle => Kind::Settle,
+        }
+    }
 }
 
 // Which accepted call came last, and what settle answered since the last edit that was accepted, if it was called since.

@@ -6,7 +6,7 @@ ghost use Rattle.ledger.specs.Settling.{settle_refusal, Answers};
 ghost use Rattle.chain.specs.Chains.{Replayed};
 ghost use Rattle.chain.specs.Steps.{Step};
 
-use crate::calls::{Call, Kind, Progress, Report};
+use crate::calls::{Call, Progress, Report};
 use cost::costs::Cost;
 use ledger::faults::SheetFault;
 use ledger::settling::Amounts;
@@ -31,9 +31,9 @@ fn make<C: Cost + Copy>(
 {
     match *call {
         Call::Supply { node, amount } => {
-            so_far.after_edit(Kind::Supply, sheet.supply(node, amount))
+            so_far.after_edit(call.kind(), sheet.supply(node, amount))
         }
-        Call::Swap { arc, cost } => so_far.after_edit(Kind::Swap, sheet.swap(arc, cost, costs)),
+        Call::Swap { arc, cost } => so_far.after_edit(call.kind(), sheet.swap(arc, cost, costs)),
         Call::Settle => so_far.after_settling(sheet.settle(costs)),
     }
 }
