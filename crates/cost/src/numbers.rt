@@ -41,6 +41,7 @@ pub const SQUARES: Limits = Limits {
     high: 1_000_000,
 };
 
+// The arrays of a stepped cost, in a crate above, have room for as many.
 pub const COUNTS: Limits = Limits { low: 0, high: 8 };
 
 impl Limits {

@@ -31,6 +31,7 @@ impl fmt::Display for Layer {
 }
 
 // A refusal as it is reported: its number in the table of refusals, the place that it names, its layer.
+// A refusal is reported as numbers, as the table of refusals has them; 0 stands where it names no place.
 #[derive(Clone, Copy, Debug, PartialEq, Eq)]
 pub struct Refusal {
     pub number: usize,
@@ -85,6 +86,7 @@ impl From<CostFault> for Refusal {
     }
 }
 
+// Display is the library's, so no one impl serves all faults.
 impl fmt::Display for CostFault {
     ghost output = { λ fault. Some (codes "a cost is refused: " ++ refusal_text (cost_refusal fault)) };
 

@@ -100,6 +100,7 @@ impl From<SheetFault> for Refusal {
     }
 }
 
+// Display is the library's, so no one impl serves all faults.
 impl fmt::Display for DraftFault {
     ghost output = { λ fault. Some (codes "a draft is refused: " ++ refusal_text (draft_refusal fault)) };
 

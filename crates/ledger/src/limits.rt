@@ -1,5 +1,6 @@
 // The limits of the numbers that a sheet is handed.
 use cost::numbers::Limits;
+use network::records::MOST_NODES;
 
 // A supply.
 pub const SUPPLIES: Limits = Limits {
@@ -14,4 +15,7 @@ pub const PRICES: Limits = Limits {
 };
 
 // How many nodes a draft is for.
-pub const SIZES: Limits = Limits { low: 0, high: 64 };
+pub const SIZES: Limits = Limits {
+    low: 0,
+    high: MOST_NODES as i64,
+};

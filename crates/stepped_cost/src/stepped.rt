@@ -64,6 +64,7 @@ impl<'a> Steps<'a> {
     }
 
     // Refuses the first piece at which the first load and the widths pass the limit of a load.
+    // A loop, since the sum goes on from each piece to the next.
     fn check_length(self, first: i64) -> Result<(), CostFault>
         requires first { Between (pos 0) (pos 10000) first }
         requires widths { AllBetween (pos 1) (pos 10000) self.widths.now }
@@ -123,7 +124,8 @@ impl<'a> Steps<'a> {
         None
     }
 
-    // Whether the pieces keep their laws behind a first load, in one walk over them.
+    // Whether the pieces keep their laws behind a first load.
+    // One walk, since each increment that is asked for comes through here.
     fn fit(self, first: i64) -> bool
         requires { Between (pos 0) (pos 10000) first }
         ensures fit { result ≡ true → PiecesFit first self.entry.widths.now self.entry.slopes.now }

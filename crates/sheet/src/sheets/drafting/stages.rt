@@ -11,6 +11,8 @@ use crate::sheets::Sheet;
 use crate::sheets::drafting::{Draft, Size};
 use ledger::faults::DraftFault;
 
+// Two types of the same fields, so that no supply is fed after the turn.
+
 // The stage in which nodes get their supplies.
 #[derive(Drop)]
 pub struct Feeding<'a> {

@@ -31,7 +31,7 @@ impl TryFrom<i64> for Size {
     }
 }
 
-// Checks a node count.
+// Checks a node count, as the conversion does: by its name it reads as a step of the draft.
 pub fn size(count: i64) -> Result<Size, DraftFault>
     ensures answer { result_err result ≡ option_map Number (outside size_limits 1 count) }
     ensures count { IfOk result (λ s. pos s.count ≡ count) }
