@@ -14,14 +14,14 @@ use network::records::MOST_NODES;
 type Queue = ArrayVec<usize, MOST_NODES>;
 
 impl Loaded<'_> {
-    // A queue of the nodes that are labelled as reached. Past the nodes a list of labels may hold anything, so the nodes are counted.
+    // A queue of the nodes that are labelled as reached. Past the nodes a list of labels may hold anything.
     fn reached_now(&self, labels: &[Option<Label>]) -> Queue
         requires { length self.now.graph.nodes.now ≤ length labels.now }
         ensures { Queued (length self.now.graph.nodes.now) labels.now result.items }
     {
         let mut queue = Queue::new();
-        for v in 0..self.graph.nodes.len() {
-            if labels[v].is_some() {
+        for (v, label) in labels[..self.graph.nodes.len()].iter().enumerate() {
+            if label.is_some() {
                 queue.push(v);
             }
         }

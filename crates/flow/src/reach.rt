@@ -43,14 +43,13 @@ fn source(surplus: i64) -> Option<Label>
 }
 
 // Labels the nodes of positive surplus as reached, each with its surplus, and no other node.
-// A map of all places, also those past the nodes, takes longer than a round of the search over few nodes.
 pub(crate) fn label_sources(graph: &Graph<'_>, surpluses: &[i64], labels: &mut [Option<Label>])
     requires told { length graph.now.nodes.now ≤ length surpluses.now }
     requires long { length graph.now.nodes.now ≤ length labels.old }
     ensures { (v : ℕ) → v < length graph.now.nodes.now → label_of labels.new v ≡ source (numbers surpluses.now v) }
 {
-    for v in 0..graph.nodes.len() {
-        labels[v] = source(surpluses[v]);
+    for (v, label) in labels[..graph.nodes.len()].iter_mut().enumerate() {
+        *label = source(surpluses[v]);
     }
 }
 
