@@ -7,7 +7,7 @@ use Rattle.std.proofs.lemmas.Bool.{cases_eq, and_parts, not-true, both_ways, or_
 use Rattle.network.specs.Network.{Net}
 use Rattle.flow.specs.declared.reach.Step.{Step}
 use Rattle.flow.specs.declared.reach.Label.{Label}
-use Rattle.flow.specs.Labels.{label_of, reached_in, unreached, end_of, start_of, room_on, extends, onward, onward_from, Stepped, Justified, Labelled, ClosedIn}
+use Rattle.flow.specs.Labels.{is_along, label_of, reached_in, unreached, end_of, start_of, room_on, extends, onward, onward_from, Stepped, Justified, Labelled, ClosedIn}
 use Rattle.network.proofs.Counts.{count_more}
 
 -- what the one is, the other is
@@ -29,7 +29,7 @@ none_of (Some x) e = absurd (both_ways true e refl)
 
 module _ (net : Net) (low high load : ℕ → ℤ) (labels : List (Option Label)) (labelled : Labelled net low high load labels)
     (step : Step) (to : ℕ) (room : ℤ) (arc_in : step.arc < net.arcs) (from_in : step.from < net.nodes) (to_in : to < net.nodes)
-    (starts : start_of net step.forward step.arc ≡ step.from) (ends : end_of net step.forward step.arc ≡ to) (room_is : room ≡ room_on step.forward (low step.arc) (high step.arc) (load step.arc))
+    (starts : start_of net (is_along step.way) step.arc ≡ step.from) (ends : end_of net (is_along step.way) step.arc ≡ to) (room_is : room ≡ room_on (is_along step.way) (low step.arc) (high step.arc) (load step.arc))
     (start : Label) (from_is : label_of labels step.from ≡ Some start) (fresh : label_of labels to ≡ None) (above : pos 0 <ℤ room) where
   abbrev more : List (Option Label)
   more = set labels to (Some (onward start step room))
@@ -144,7 +144,7 @@ parts from to room test =
 
 module _ (net : Net) (low high load : ℕ → ℤ) (labels next : List (Option Label)) (labelled : Labelled net low high load labels)
     (step : Step) (to : ℕ) (room : ℤ) (arc_in : step.arc < net.arcs) (from_in : step.from < net.nodes) (to_in : to < net.nodes)
-    (starts : start_of net step.forward step.arc ≡ step.from) (ends : end_of net step.forward step.arc ≡ to) (room_is : room ≡ room_on step.forward (low step.arc) (high step.arc) (load step.arc)) where
+    (starts : start_of net (is_along step.way) step.arc ≡ step.from) (ends : end_of net (is_along step.way) step.arc ≡ to) (room_is : room ≡ room_on (is_along step.way) (low step.arc) (high step.arc) (load step.arc)) where
   pub extend_by : (r : Bool) → r ≡ extends labels step.from to room → next ≡ cond r (set labels to (onward_from (label_of labels step.from) step room)) labels
       → Extended net low high load labels r next step.from to room
   extend_by true test is =

@@ -16,7 +16,7 @@ use Rattle.flow.specs.declared.reach.Step.{Step}
 use Rattle.flow.specs.declared.reach.Label.{Label}
 use Rattle.flow.proofs.Gathered.{counted_neg}
 use Rattle.flow.specs.Within.{Ready}
-use Rattle.flow.specs.Labels.{label_of, step_of, end_of, start_of, room_on, Stepped, Labelled}
+use Rattle.flow.specs.Labels.{is_along, label_of, step_of, end_of, start_of, room_on, Stepped, Labelled}
 use Rattle.flow.proofs.Marks.{taken}
 
 -- what a load gains when an amount goes over its arc
@@ -98,7 +98,7 @@ module _ (graph : Graph) (spans : List Span) (start : List ℤ) (labels : List (
     noted = ap step_of (sym pushing.at) ∙ told
 
     abbrev next : List ℤ
-    next = set loads s.arc (numbers loads s.arc +ℤ over s.forward by)
+    next = set loads s.arc (numbers loads s.arc +ℤ over (is_along s.way) by)
 
     pub found : (before : Label) × (label_of labels s.from ≡ Some before) × Stepped net (low_of spans) (high_of spans) (numbers start) node pushing.label before s
     found = (labelled.justified node pushing.place pushing.label pushing.at).stepped s noted
@@ -112,16 +112,16 @@ module _ (graph : Graph) (spans : List Span) (start : List ℤ) (labels : List (
     pub shorter : order_of (label_of labels s.from) < order_of (label_of labels node)
     shorter = omega (arith, step.earlier, ap order_of found.1, ap order_of pushing.at)
 
-    at_arc : numbers next s.arc ≡ numbers loads s.arc +ℤ over s.forward by
+    at_arc : numbers next s.arc ≡ numbers loads s.arc +ℤ over (is_along s.way) by
     at_arc = get_or-set_same loads s.arc _ (pos 0) (omega (arith, step.arc_in, pushing.ready.loads_long))
 
     here : numbers loads s.arc ≡ numbers start s.arc
     here = pushing.kept node pushing.place pushing.label s pushing.at noted (omega arith)
 
-    pub held_on : Between (low_of spans s.arc) (high_of spans s.arc) (numbers loads s.arc +ℤ over s.forward by)
+    pub held_on : Between (low_of spans s.arc) (high_of spans s.arc) (numbers loads s.arc +ℤ over (is_along s.way) by)
     held_on =
-        let room : by ≤ℤ room_on s.forward (low_of spans s.arc) (high_of spans s.arc) (numbers loads s.arc) = rw here (omega (arith, ints, step.fits, pushing.amount)) in
-        room_kept s.forward _ _ _ by sign room (pushing.ready.held s.arc step.arc_in)
+        let room : by ≤ℤ room_on (is_along s.way) (low_of spans s.arc) (high_of spans s.arc) (numbers loads s.arc) = rw here (omega (arith, ints, step.fits, pushing.amount)) in
+        room_kept (is_along s.way) _ _ _ by sign room (pushing.ready.held s.arc step.arc_in)
 
     -- what the change of the load asks
     pub record Shifts : Type 0 where
@@ -137,14 +137,14 @@ module _ (graph : Graph) (spans : List Span) (start : List ℤ) (labels : List (
         record {
           place = omega (arith, step.arc_in, pushing.ready.loads_long);
           limits = omega (arith, ints);
-          amount = (sign, small s.forward _ _ _ by low high held held_on);
+          amount = (sign, small (is_along s.way) _ _ _ by low high held held_on);
         }
 
     apart : (v : ℕ) → v < length graph.nodes.now → (other : Label) (t : Step) → label_of labels v ≡ Some other → other.step ≡ Some t → other.order ≤ before.order → t.arc ≡ s.arc → ⊥
     apart v h other t is noted' order same =
         let past = (labelled.justified v h other is).stepped t noted' in
-        let crossed = two_steps net s.arc s.forward t.forward node s.from v t.from
-        step.ends step.starts (ap (end_of net t.forward) (sym same) ∙ past.2.ends) (ap (start_of net t.forward) (sym same) ∙ past.2.starts)
+        let crossed = two_steps net s.arc (is_along s.way) (is_along t.way) node s.from v t.from
+        step.ends step.starts (ap (end_of net (is_along t.way)) (sym same) ∙ past.2.ends) (ap (start_of net (is_along t.way)) (sym same) ∙ past.2.starts)
         (λ e. omega (arith, step.earlier, same_order labels node v pushing.label other pushing.at is e)) in
         omega (arith, step.earlier, past.2.earlier, same_order labels node t.from pushing.label past.0 pushing.at past.1 crossed.0)
 
@@ -170,7 +170,7 @@ module _ (graph : Graph) (spans : List Span) (start : List ℤ) (labels : List (
             arith,
             ints,
             pushing.moved v h,
-            stepped_surplus net (numbers loads) (numbers next) s.arc s.forward by v (omega (arith, ints, at_arc))
+            stepped_surplus net (numbers loads) (numbers next) s.arc (is_along s.way) by v (omega (arith, ints, at_arc))
                 (surplus_changed net (numbers loads) (numbers next) s.arc step.arc_in (alike_set (length graph.arcs.now) s.arc loads _ (pos 0)) v),
             ap (λ k. counted (eqb k v) by) step.ends,
             ap (λ k. counted (eqb k v) by) step.starts,

@@ -7,8 +7,9 @@ use Rattle.network.specs.Records.{numbers}
 use Rattle.network.proofs.Graphs.{graph_sound}
 use Rattle.flow.specs.declared.loaded.Loaded.{Loaded}
 use Rattle.flow.specs.declared.reach.Label.{Label}
+use Rattle.flow.specs.declared.ways.Way.{Way}
 use Rattle.flow.specs.Spans.{low_of, high_of}
-use Rattle.flow.specs.Labels.{label_of, extends, onward_from, end_of, start_of, room_on, LabelledOn}
+use Rattle.flow.specs.Labels.{is_along, label_of, extends, onward_from, end_of, start_of, room_on, LabelledOn}
 use Rattle.flow.proofs.Marks.{Extended, extend_by}
 use Rattle.flow.proofs.Listing.{either}
 
@@ -17,7 +18,7 @@ by_way : (P : ℤ → Type 0) (forward : Bool) (low high load : ℤ) → P (high
 by_way P true low high load rise fall = rise
 by_way P false low high load rise fall = fall
 
-module _ (loaded : Loaded) (a : ℕ) (within : a < length loaded.graph.arcs.now) (forward : Bool) where
+module _ (loaded : Loaded) (a : ℕ) (within : a < length loaded.graph.arcs.now) (way : Way) where
   abbrev net : Net
   net = net_in loaded.graph []
 
@@ -31,27 +32,27 @@ module _ (loaded : Loaded) (a : ℕ) (within : a < length loaded.graph.arcs.now)
   load = numbers loaded.loads.now
 
   -- both ends of the step are nodes
-  pub start_in : start_of net forward a < length loaded.graph.nodes.now
-  start_in = either forward (net.tail a) (net.head a) (length loaded.graph.nodes.now) ((graph_sound loaded.graph).tails a within) ((graph_sound loaded.graph).heads a within)
+  pub start_in : start_of net (is_along way) a < length loaded.graph.nodes.now
+  start_in = either (is_along way) (net.tail a) (net.head a) (length loaded.graph.nodes.now) ((graph_sound loaded.graph).tails a within) ((graph_sound loaded.graph).heads a within)
 
-  pub end_in : end_of net forward a < length loaded.graph.nodes.now
-  end_in = either forward (net.head a) (net.tail a) (length loaded.graph.nodes.now) ((graph_sound loaded.graph).heads a within) ((graph_sound loaded.graph).tails a within)
+  pub end_in : end_of net (is_along way) a < length loaded.graph.nodes.now
+  end_in = either (is_along way) (net.head a) (net.tail a) (length loaded.graph.nodes.now) ((graph_sound loaded.graph).heads a within) ((graph_sound loaded.graph).tails a within)
 
   pub limits_fit : SFits w64 (low a) × SFits w64 (high a) × SFits w64 (load a)
   limits_fit = omega (arith, ints, loaded.low_limit a within, loaded.high_limit a within, loaded.above_low a within, loaded.under_high a within)
 
-  pub room_fits : SFits w64 (room_on forward (low a) (high a) (load a))
+  pub room_fits : SFits w64 (room_on (is_along way) (low a) (high a) (load a))
   room_fits =
       let low_here = loaded.low_limit a within in
       let high_here = loaded.high_limit a within in
       let above = loaded.above_low a within in
       let under = loaded.under_high a within in
-      by_way (SFits w64) forward (low a) (high a) (load a) (omega (arith, ints)) (omega (arith, ints))
+      by_way (SFits w64) (is_along way) (low a) (high a) (load a) (omega (arith, ints)) (omega (arith, ints))
 
   pub stepped_over : (labels next : List (Option Label)) (from to : ℕ) (room : ℤ) (r : Bool) → LabelledOn loaded labels
-      → from ≡ start_of net forward a → to ≡ end_of net forward a → room ≡ room_on forward (low a) (high a) (load a)
-      → r ≡ extends labels from to room → next ≡ cond r (set labels to (onward_from (label_of labels from) (record { arc = a; from = from; forward = forward }) room)) labels
+      → from ≡ start_of net (is_along way) a → to ≡ end_of net (is_along way) a → room ≡ room_on (is_along way) (low a) (high a) (load a)
+      → r ≡ extends labels from to room → next ≡ cond r (set labels to (onward_from (label_of labels from) (record { arc = a; from = from; way = way }) room)) labels
       → Extended net low high load labels r next from to room
   stepped_over labels next from to room r labelled starts ends rooms test is =
       extend_by net low high load labels next labelled
-      (record { arc = a; from = from; forward = forward }) to room within (omega (arith, start_in, starts)) (omega (arith, end_in, ends)) (sym starts) (sym ends) rooms r test is
+      (record { arc = a; from = from; way = way }) to room within (omega (arith, start_in, starts)) (omega (arith, end_in, ends)) (sym starts) (sym ends) rooms r test is

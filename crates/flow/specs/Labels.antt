@@ -1,14 +1,21 @@
 -- The labels by which a search over the steps left open by the loads notes how it reached each node.
-use Rattle.std.specs.Prelude.{◌≡◌, ℕ, ◌+◌, ◌<◌, ◌≤◌, Bool, true, cond, not, ◌&&◌, List, [], length, ℤ, pos, ◌-ℤ◌, ◌≤ℤ◌, ◌<ℤ◌, int_lt, Some, None, Option, is_some, option_map, slice_index_or}
+use Rattle.std.specs.Prelude.{◌≡◌, ℕ, ◌+◌, ◌<◌, ◌≤◌, Bool, true, false, cond, not, ◌&&◌, List, [], length, ℤ, pos, ◌-ℤ◌, ◌≤ℤ◌, ◌<ℤ◌, int_lt, Some, None, Option, is_some, option_map, slice_index_or}
 use Rattle.std.specs.Int.{int_min}
 pub use Rattle.network.specs.Sums.{count}
 use Rattle.network.specs.Network.{Net, surplus}
 use Rattle.network.specs.Graphs.{net_in}
 use Rattle.network.specs.Records.{numbers}
+use Rattle.flow.specs.declared.ways.Way.{Way}
+use Rattle.flow.specs.declared.ways.Way.TheVariants.{Along, Against}
 use Rattle.flow.specs.declared.reach.Step.{Step}
 use Rattle.flow.specs.declared.reach.Label.{Label}
 use Rattle.flow.specs.declared.loaded.Loaded.{Loaded}
 use Rattle.flow.specs.Spans.{low_of, high_of}
+
+-- Whether a step goes along its arc, and not against it.
+abbrev pub is_along : Way → Bool
+is_along Along = true
+is_along Against = false
 
 -- The label of a node, if it was reached.
 abbrev pub label_of : List (Option Label) → ℕ → Option Label
@@ -61,9 +68,9 @@ pub record Stepped (net : Net) (low high load : ℕ → ℤ) (v : ℕ) (label be
   pub from_in : step.from < net.nodes
   pub earlier : before.order < label.order
   pub narrower : label.width ≤ℤ before.width
-  pub ends : end_of net step.forward step.arc ≡ v
-  pub starts : start_of net step.forward step.arc ≡ step.from
-  pub fits : label.width ≤ℤ room_on step.forward (low step.arc) (high step.arc) (load step.arc)
+  pub ends : end_of net (is_along step.way) step.arc ≡ v
+  pub starts : start_of net (is_along step.way) step.arc ≡ step.from
+  pub fits : label.width ≤ℤ room_on (is_along step.way) (low step.arc) (high step.arc) (load step.arc)
 
 -- What a label says of its node is so: as much as it says can come to the node, out of its own surplus where no step leads to it.
 pub record Justified (net : Net) (low high load : ℕ → ℤ) (labels : List (Option Label)) (v : ℕ) (label : Label) : Type 0 where

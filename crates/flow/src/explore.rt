@@ -5,8 +5,9 @@ ghost use Rattle.flow.specs.Near.{Listed, Nearby};
 ghost use Rattle.flow.specs.Queues.{Queued};
 
 use crate::loaded::Loaded;
-use crate::near::{Lists, Near, Walk, end_of};
+use crate::near::{Lists, Near, Walk};
 use crate::reach::Label;
+use crate::ways::Way;
 use arrayvec::ArrayVec;
 use network::records::MOST_NODES;
 
@@ -29,15 +30,15 @@ impl Loaded<'_> {
     }
 
     // Tries a step over an arc; the node that it reaches joins the queue.
-    fn advance(&self, arc: usize, forward: bool, labels: &mut [Option<Label>], queue: &mut Queue)
+    fn advance(&self, arc: usize, way: Way, labels: &mut [Option<Label>], queue: &mut Queue)
         requires place { arc < length self.now.graph.arcs.now }
         requires labels { LabelledOn self.now labels.old }
         requires queued { Queued (length self.now.graph.nodes.now) labels.old queue.old.items }
         ensures labelled { LabelledOn self.now labels.new }
         ensures queued { Queued (length self.now.graph.nodes.now) labels.new queue.new.items }
     {
-        if self.step_over(arc, forward, labels) {
-            queue.push(end_of(&self.graph.arcs[arc], forward));
+        if self.step_over(arc, way, labels) {
+            queue.push(way.end(&self.graph.arcs[arc]));
         }
     }
 
@@ -46,7 +47,7 @@ impl Loaded<'_> {
         &self,
         lists: &Lists,
         node: usize,
-        forward: bool,
+        way: Way,
         labels: &mut [Option<Label>],
         queue: &mut Queue,
     )
@@ -62,7 +63,7 @@ impl Loaded<'_> {
             ahead: lists.firsts[node],
         };
         for arc in walk {
-            self.advance(arc, forward, labels, queue);
+            self.advance(arc, way, labels, queue);
         }
     }
 
@@ -75,8 +76,8 @@ impl Loaded<'_> {
         ensures labelled { LabelledOn self.now labels.new }
         ensures queued { Queued (length self.now.graph.nodes.now) labels.new queue.new.items }
     {
-        self.follow(near.leaving, node, true, labels, queue);
-        self.follow(near.entering, node, false, labels, queue);
+        self.follow(near.leaving, node, Way::Along, labels, queue);
+        self.follow(near.entering, node, Way::Against, labels, queue);
     }
 
     // Spreads the labels from node to node, in the order in which the nodes are reached, until the turn comes to a node of negative surplus.

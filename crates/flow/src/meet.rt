@@ -17,6 +17,7 @@ use crate::reach::{Label, first_over, label_sources};
 use crate::sets::NodeSet;
 use crate::spans::Span;
 use crate::surpluses::{surpluses_of, transfer};
+use crate::ways::Way;
 use network::graph::Graph;
 use network::records::MOST_NODES;
 
@@ -78,8 +79,8 @@ pub fn meet(graph: &Graph<'_>, spans: &[Span], loads: &mut [i64]) -> Result<(), 
     ensures met { OnOk result (Met (net_in graph.now []) (low_of spans.now) (high_of spans.now) (numbers loads.new)) }
     ensures barred { IfErr result (λ set. OverFullWithin (net_in graph.now []) (low_of spans.now) (high_of spans.now) (member set)) }
 {
-    let leaving = lists_of(graph, true);
-    let entering = lists_of(graph, false);
+    let leaving = lists_of(graph, Way::Along);
+    let entering = lists_of(graph, Way::Against);
     let near = Near {
         leaving: &leaving,
         entering: &entering,

@@ -1,10 +1,11 @@
 // The arcs at each node, in lists that lie in fixed arrays.
-ghost use Rattle.std.specs.Prelude.{◌≡◌, ℕ, ◌<◌, ◌≤◌, length, if◌then◌else◌, Some, IfSome, slice_set};
+ghost use Rattle.std.specs.Prelude.{◌≡◌, ℕ, ◌<◌, ◌≤◌, length, Some, IfSome, slice_set};
 ghost use Rattle.std.specs.Iterator.{at_most};
 ghost use Rattle.flow.specs.Near.{Listed, listed_at, past};
 
+use crate::ways::Way;
 use network::graph::Graph;
-use network::records::{Arc, MOST_ARCS, MOST_NODES};
+use network::records::{MOST_ARCS, MOST_NODES};
 
 // One list of arcs for each node: the first arc of each list, and after each arc the next one of its list.
 // Settling cannot fail and so takes no heap: the lists lie in fixed arrays, and an arc stands for its place.
@@ -45,20 +46,6 @@ pub struct Near<'a> {
     pub entering: &'a Lists,
 }
 
-// The node from which a step over an arc starts, along the arc or against it.
-pub(crate) fn start_of(arc: &Arc, forward: bool) -> usize
-    ensures { result ≡ (if forward then arc.now.tail else arc.now.head) }
-{
-    if forward { arc.tail } else { arc.head }
-}
-
-// The node at which such a step ends.
-pub(crate) fn end_of(arc: &Arc, forward: bool) -> usize
-    ensures { result ≡ (if forward then arc.now.head else arc.now.tail) }
-{
-    if forward { arc.head } else { arc.tail }
-}
-
 // Puts an arc before the other arcs in the list of a node.
 fn link(lists: &mut Lists, node: usize, arc: usize)
     requires node { node < MOST_NODES }
@@ -71,7 +58,7 @@ fn link(lists: &mut Lists, node: usize, arc: usize)
 }
 
 // Lists each arc at the node from which a step over it starts.
-pub(crate) fn lists_of(graph: &Graph<'_>, forward: bool) -> Lists
+pub(crate) fn lists_of(graph: &Graph<'_>, way: Way) -> Lists
     ensures { Listed (length graph.now.arcs.now) result }
 {
     let mut lists = Lists {
@@ -79,7 +66,7 @@ pub(crate) fn lists_of(graph: &Graph<'_>, forward: bool) -> Lists
         nexts: [None; MOST_ARCS],
     };
     for (a, arc) in graph.arcs.iter().enumerate() {
-        link(&mut lists, start_of(arc, forward), a);
+        link(&mut lists, way.start(arc), a);
     }
     lists
 }

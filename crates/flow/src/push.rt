@@ -7,10 +7,11 @@ ghost use Rattle.network.specs.Graphs.{net_in};
 ghost use Rattle.network.specs.Records.{numbers};
 ghost use Rattle.flow.specs.Spans.{low_of, high_of};
 ghost use Rattle.flow.specs.Within.{Ready};
-ghost use Rattle.flow.specs.Labels.{label_of, step_of, Labelled};
+ghost use Rattle.flow.specs.Labels.{is_along, label_of, step_of, Labelled};
 
 use crate::reach::{Label, Step};
 use crate::spans::Span;
+use crate::ways::Way;
 use network::graph::Graph;
 
 // Changes the load of the arc of a step by an amount, in the direction of the step.
@@ -18,12 +19,11 @@ fn shift(loads: &mut [i64], step: Step, by: i64)
     requires place { step.arc < length loads.old }
     requires limits { Between (pos 0) (pos 10000) (numbers loads.old step.arc) }
     requires amount { Between (pos 0) (pos 10000) by }
-    ensures { loads.new ≡ slice_set loads.old step.arc (numbers loads.old step.arc +ℤ (if step.forward then by else neg_ℤ by)) }
+    ensures { loads.new ≡ slice_set loads.old step.arc (numbers loads.old step.arc +ℤ (if is_along step.way then by else neg_ℤ by)) }
 {
-    if step.forward {
-        loads[step.arc] += by;
-    } else {
-        loads[step.arc] -= by;
+    match step.way {
+        Way::Along => loads[step.arc] += by,
+        Way::Against => loads[step.arc] -= by,
     }
 }
 

@@ -3,11 +3,10 @@ ghost use Rattle.std.specs.Prelude.{◌≡◌, ℕ, ◌<◌, ◌≤◌, true, fa
 ghost use Rattle.network.specs.Graphs.{net_in};
 ghost use Rattle.network.specs.Records.{numbers};
 ghost use Rattle.flow.specs.Spans.{low_of, high_of};
-ghost use Rattle.flow.specs.Labels.{label_of, reached_in, unreached, source, extends, onward_from, start_of, end_of, room_on, LabelledOn, ClosedOn};
+ghost use Rattle.flow.specs.Labels.{label_of, reached_in, unreached, source, extends, onward_from, is_along, start_of, end_of, room_on, LabelledOn, ClosedOn};
 
 use crate::loaded::Loaded;
-use crate::near::{end_of, start_of};
-use crate::spans::Span;
+use crate::ways::Way;
 use network::graph::Graph;
 use network::records::MOST_NODES;
 
@@ -16,7 +15,7 @@ use network::records::MOST_NODES;
 pub struct Step {
     pub arc: usize,
     pub from: usize,
-    pub forward: bool,
+    pub way: Way,
 }
 
 // How a node was reached: after how many steps, how much can come to it, and by which step last, if it is no source.
@@ -102,35 +101,20 @@ pub(crate) fn first_over(graph: &Graph<'_>, surpluses: &[i64]) -> Option<usize>
         .position(|surplus| *surplus > 0)
 }
 
-// By how much a load can change in the direction of a step.
-fn room_on(forward: bool, span: Span, load: i64) -> i64
-    requires from { pos 0 ≤ℤ span.low }
-    requires above { span.low ≤ℤ load }
-    requires under { load ≤ℤ span.high }
-    requires to { span.high ≤ℤ pos 10000 }
-    ensures { result ≡ room_on forward span.low span.high load }
-{
-    if forward {
-        span.high - load
-    } else {
-        load - span.low
-    }
-}
-
 impl Loaded<'_> {
     // Tries a step over an arc, along it or against it; answers whether it reaches a node more.
-    pub(crate) fn step_over(&self, arc: usize, forward: bool, labels: &mut [Option<Label>]) -> bool
+    pub(crate) fn step_over(&self, arc: usize, way: Way, labels: &mut [Option<Label>]) -> bool
         requires place { arc < length self.now.graph.arcs.now }
         requires labels { LabelledOn self.now labels.old }
         ensures labelled { LabelledOn self.now labels.new }
         ensures further { result ≡ true → unreached (length self.now.graph.nodes.now) labels.new < unreached (length self.now.graph.nodes.now) labels.old }
         ensures same { result ≡ false → labels.new ≡ labels.old }
-        ensures shut { result ≡ false → reached_in labels.old (start_of (net_in self.now.graph []) forward arc) ≡ true → pos 0 <ℤ room_on forward (low_of self.now.spans.now arc) (high_of self.now.spans.now arc) (numbers self.now.loads.now arc) → reached_in labels.old (end_of (net_in self.now.graph []) forward arc) ≡ true }
+        ensures shut { result ≡ false → reached_in labels.old (start_of (net_in self.now.graph []) (is_along way) arc) ≡ true → pos 0 <ℤ room_on (is_along way) (low_of self.now.spans.now arc) (high_of self.now.spans.now arc) (numbers self.now.loads.now arc) → reached_in labels.old (end_of (net_in self.now.graph []) (is_along way) arc) ≡ true }
     {
-        let from = start_of(&self.graph.arcs[arc], forward);
-        let to = end_of(&self.graph.arcs[arc], forward);
-        let room = room_on(forward, self.spans[arc], self.loads[arc]);
-        extend(labels, Step { arc, from, forward }, to, room)
+        let from = way.start(&self.graph.arcs[arc]);
+        let to = way.end(&self.graph.arcs[arc]);
+        let room = way.room(self.spans[arc], self.loads[arc]);
+        extend(labels, Step { arc, from, way }, to, room)
     }
 
     // One pass over the arcs that reaches further nodes over steps with room; answers whether there were any.
@@ -143,8 +127,8 @@ impl Loaded<'_> {
     {
         let mut further = false;
         for arc in 0..self.graph.arcs.len() {
-            let along = self.step_over(arc, true, labels);
-            let against = self.step_over(arc, false, labels);
+            let along = self.step_over(arc, Way::Along, labels);
+            let against = self.step_over(arc, Way::Against, labels);
             further = further | along | against;
         }
         further
