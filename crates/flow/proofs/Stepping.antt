@@ -1,5 +1,6 @@
 -- A single step over an arc, along it or against it, keeps the labels sound.
-use Rattle.std.proofs.Common.{◌≡◌, ℕ, ◌<◌, Bool, true, false, cond, List, [], length, set, Option, ℤ, ◌-ℤ◌, sym, arith, w64, SFits}
+use Rattle.std.proofs.Common.{◌≡◌, ℕ, ◌<◌, Bool, true, false, cond, List, [], length, set, Option, is_some, IfSome, ap, ℤ, ◌-ℤ◌, sym, arith, w64, SFits}
+use Rattle.std.specs.Bool.{then_some}
 use Rattle.std.proofs.lemmas.Int.{ints}
 use Rattle.network.specs.Network.{Net}
 use Rattle.network.specs.Graphs.{net_in}
@@ -17,6 +18,15 @@ use Rattle.flow.proofs.Listing.{either}
 by_way : (P : ℤ → Type 0) (forward : Bool) (low high load : ℤ) → P (high -ℤ load) → P (load -ℤ low) → P (room_on forward low high load)
 by_way P true low high load rise fall = rise
 by_way P false low high load rise fall = fall
+
+-- a value that is there on a condition
+pub is_there : (b : Bool) (x : ℕ) (o : Option ℕ) → o ≡ then_some b x → is_some o ≡ b
+is_there true x o is = ap is_some is
+is_there false x o is = ap is_some is
+
+pub where_there : (P : ℕ → Type 0) (b : Bool) (x : ℕ) (o : Option ℕ) → o ≡ then_some b x → P x → IfSome o P
+where_there P true x o is holds = rw is holds
+where_there P false x o is holds = rw is _
 
 module _ (loaded : Loaded) (a : ℕ) (within : a < length loaded.graph.arcs.now) (way : Way) where
   abbrev net : Net

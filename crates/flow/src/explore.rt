@@ -37,8 +37,8 @@ impl Loaded<'_> {
         ensures labelled { LabelledOn self.now labels.new }
         ensures queued { Queued (length self.now.graph.nodes.now) labels.new queue.new.items }
     {
-        if self.step_over(arc, way, labels) {
-            queue.push(way.end(&self.graph.arcs[arc]));
+        if let Some(node) = self.step_over(arc, way, labels) {
+            queue.push(node);
         }
     }
 

@@ -1,5 +1,5 @@
 // Which nodes can be reached from those of positive surplus, over steps that the loads leave open.
-ghost use Rattle.std.specs.Prelude.{◌≡◌, ℕ, ◌<◌, ◌≤◌, true, false, [], length, Some, pos, ◌≤ℤ◌, ◌<ℤ◌, if◌then◌else◌, MatchOption, slice_set};
+ghost use Rattle.std.specs.Prelude.{◌≡◌, ℕ, ◌<◌, ◌≤◌, true, false, [], length, Some, pos, ◌≤ℤ◌, ◌<ℤ◌, if◌then◌else◌, MatchOption, IfSome, is_some, slice_set};
 ghost use Rattle.network.specs.Graphs.{net_in};
 ghost use Rattle.network.specs.Records.{numbers};
 ghost use Rattle.flow.specs.Spans.{low_of, high_of};
@@ -102,19 +102,25 @@ pub(crate) fn first_over(graph: &Graph<'_>, surpluses: &[i64]) -> Option<usize>
 }
 
 impl Loaded<'_> {
-    // Tries a step over an arc, along it or against it; answers whether it reaches a node more.
-    pub(crate) fn step_over(&self, arc: usize, way: Way, labels: &mut [Option<Label>]) -> bool
+    // Tries a step over an arc, along it or against it; answers the node that it reaches, if it is one more.
+    pub(crate) fn step_over(
+        &self,
+        arc: usize,
+        way: Way,
+        labels: &mut [Option<Label>],
+    ) -> Option<usize>
         requires place { arc < length self.now.graph.arcs.now }
         requires labels { LabelledOn self.now labels.old }
         ensures labelled { LabelledOn self.now labels.new }
-        ensures further { result ≡ true → unreached (length self.now.graph.nodes.now) labels.new < unreached (length self.now.graph.nodes.now) labels.old }
-        ensures same { result ≡ false → labels.new ≡ labels.old }
-        ensures shut { result ≡ false → reached_in labels.old (start_of (net_in self.now.graph []) (is_along way) arc) ≡ true → pos 0 <ℤ room_on (is_along way) (low_of self.now.spans.now arc) (high_of self.now.spans.now arc) (numbers self.now.loads.now arc) → reached_in labels.old (end_of (net_in self.now.graph []) (is_along way) arc) ≡ true }
+        ensures node { IfSome result (λ v. (v < length self.now.graph.nodes.now) × (v ≡ end_of (net_in self.now.graph []) (is_along way) arc)) }
+        ensures further { is_some result ≡ true → unreached (length self.now.graph.nodes.now) labels.new < unreached (length self.now.graph.nodes.now) labels.old }
+        ensures same { is_some result ≡ false → labels.new ≡ labels.old }
+        ensures shut { is_some result ≡ false → reached_in labels.old (start_of (net_in self.now.graph []) (is_along way) arc) ≡ true → pos 0 <ℤ room_on (is_along way) (low_of self.now.spans.now arc) (high_of self.now.spans.now arc) (numbers self.now.loads.now arc) → reached_in labels.old (end_of (net_in self.now.graph []) (is_along way) arc) ≡ true }
     {
         let from = way.start(&self.graph.arcs[arc]);
         let to = way.end(&self.graph.arcs[arc]);
         let room = way.room(self.spans[arc], self.loads[arc]);
-        extend(labels, Step { arc, from, way }, to, room)
+        extend(labels, Step { arc, from, way }, to, room).then_some(to)
     }
 
     // One pass over the arcs that reaches further nodes over steps with room; answers whether there were any.
@@ -127,8 +133,8 @@ impl Loaded<'_> {
     {
         let mut further = false;
         for arc in 0..self.graph.arcs.len() {
-            let along = self.step_over(arc, Way::Along, labels);
-            let against = self.step_over(arc, Way::Against, labels);
+            let along = self.step_over(arc, Way::Along, labels).is_some();
+            let against = self.step_over(arc, Way::Against, labels).is_some();
             further = further | along | against;
         }
         further
