@@ -11,7 +11,8 @@ use crate::ways::Way;
 use arrayvec::ArrayVec;
 use network::records::MOST_NODES;
 
-// The nodes that were reached, in the order in which they were.
+// The nodes that were reached, in the order in which they were. What the queue holds for sure is a record of facts about labels
+// too, which no field of a type can hold.
 type Queue = ArrayVec<usize, MOST_NODES>;
 
 impl Loaded<'_> {
@@ -89,7 +90,7 @@ impl Loaded<'_> {
         ensures { LabelledOn self.now labels.new }
     {
         let mut queue = self.reached_now(labels);
-        // The queue grows while it is read, so its places are counted.
+        // The queue grows while it is read, so its places are counted; the library's ring takes heap, which settling must not.
         for turn in 0..self.graph.nodes.len() {
             let Some(&node) = queue.as_slice().get(turn) else {
                 return;

@@ -35,7 +35,8 @@ fn reached_of(labels: &[Option<Label>; MOST_NODES]) -> NodeSet
 }
 
 // Brings as much as can go one way from a node of positive surplus, of which `over` is one, to a node of negative surplus. Where
-// there is no way, the nodes that were reached are over full.
+// there is no way, the nodes that were reached are over full. The loads are written, so they come apart from the graph and
+// the spans, which a loaded graph has together for reading.
 fn relieve(
     graph: &Graph<'_>,
     spans: &[Span],
@@ -86,6 +87,7 @@ pub fn meet(graph: &Graph<'_>, spans: &[Span], loads: &mut [i64]) -> Result<(), 
         entering: &entering,
     };
     let mut surpluses = surpluses_of(graph, loads);
+    // Settling takes no heap; places past the nodes are not read.
     let mut labels = [None; MOST_NODES];
     while let Some(over) = first_over(graph, &surpluses) {
         relieve(

@@ -36,6 +36,7 @@ fn step_to(labels: &[Option<Label>], node: usize) -> Option<Step>
 }
 
 // Pushes an amount to a node along the way on which it was reached, and answers the node where that way starts.
+// The loads are written, so they come apart from the graph and the spans, which a loaded graph has together for reading.
 pub(crate) fn push(
     graph: &Graph<'_>,
     spans: &[Span],

@@ -101,6 +101,7 @@ pub(crate) fn first_over(graph: &Graph<'_>, surpluses: &[i64]) -> Option<usize>
         .position(|surplus| *surplus > 0)
 }
 
+// What labels must say is a record of facts, which no field of a type can hold, so each contract asks for it.
 impl Loaded<'_> {
     // Tries a step over an arc, along it or against it; answers the node that it reaches, if it is one more.
     pub(crate) fn step_over(
@@ -132,6 +133,7 @@ impl Loaded<'_> {
         ensures same { result ≡ false → labels.new ≡ labels.old }
     {
         let mut further = false;
+        // A step keeps the place of its arc, so places are counted.
         for arc in 0..self.graph.arcs.len() {
             let along = self.step_over(arc, Way::Along, labels).is_some();
             let against = self.step_over(arc, Way::Against, labels).is_some();

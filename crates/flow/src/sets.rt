@@ -4,7 +4,7 @@ ghost use Rattle.flow.specs.Sets.{member};
 
 use network::records::MOST_NODES;
 
-// For each node whether it is in the set.
+// For each node whether it is in the set. Settling takes no heap; places past the nodes are not read.
 #[derive(Clone, Copy, Debug, PartialEq, Eq)]
 pub struct NodeSet {
     members: [bool; MOST_NODES],
