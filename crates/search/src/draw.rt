@@ -8,9 +8,8 @@ ghost use Rattle.network.specs.Records.{numbers};
 ghost use Rattle.search.specs.Prices.{Modest};
 ghost use Rattle.search.specs.Drawn.{Drawn, NextAbove};
 
+use cost::numbers::INCREMENTS;
 use network::records::MOST_NODES;
-
-const LARGEST_INCREMENT: i64 = 1_000_000;
 
 // The lowest price above a bar.
 fn next_above(prices: &[i64], bar: i64) -> Option<i64>
@@ -25,7 +24,7 @@ fn level_above(level: i64, price: i64, next: i64) -> i64
     requires limits { Between (pos 0) (pos 1000000000000000) price × Between (pos 0) (pos 1000000000000000) next }
     ensures { result ≡ level +ℤ int_min (next -ℤ price) (pos 1000000) }
 {
-    level + (next - price).min(LARGEST_INCREMENT)
+    level + (next - price).min(INCREMENTS.high)
 }
 
 // Writes a level down for each node of a price.
@@ -34,6 +33,7 @@ fn level_at(prices: &[i64], price: i64, level: i64, levels: &mut [i64])
     ensures here { (v : ℕ) → v < length prices.now → numbers prices.now v ≡ price → numbers levels.new v ≡ level }
     ensures elsewhere { (v : ℕ) → v < length prices.now → (numbers prices.now v ≢ price) → numbers levels.new v ≡ numbers levels.old v }
 {
+    // Of levels that are written through a zip of `iter_mut`, a proof knows nothing afterwards.
     for (v, own) in prices.iter().enumerate() {
         if *own == price {
             levels[v] = level;
@@ -48,6 +48,7 @@ pub(crate) fn draw_in(prices: &[i64]) -> [i64; MOST_NODES]
     ensures drawn { Drawn (length prices.now) (numbers prices.now) (numbers result) }
     ensures limits { (v : ℕ) → v < length prices.now → Between (pos 0) (pos 64000000) (numbers result v) }
 {
+    // Settling takes no heap; places past the nodes are not read.
     let mut levels = [0; MOST_NODES];
     let mut price = 0;
     let mut level = 0;

@@ -14,8 +14,11 @@ use flow::sets::NodeSet;
 use flow::spans::Span;
 use network::records::{Arc, MOST_ARCS, MOST_NODES};
 
+// The step with which a search begins.
+const LARGEST_STEP: i64 = 1_048_576;
+
 // Where a search has come to: a price for each node, and for each arc the span of the loads that are slack within a step of its
-// tension.
+// tension. Settling takes no heap; places past the nodes and arcs are not read.
 #[derive(Drop)]
 struct Search<'a, C> {
     network: &'a Network<'a, C>,
@@ -53,13 +56,12 @@ impl<'a, C: Cost> Search<'a, C> {
         ensures narrow { IsNarrow C.Cost.meaning result }
     {
         let prices = [0; MOST_NODES];
-        let step = 1_048_576;
-        let mut spans = [Span { low: 0, high: 0 }; MOST_ARCS];
-        network.narrow(&prices, step, |_| true, &mut spans);
+        let mut spans = [Span::default(); MOST_ARCS];
+        network.narrow(&prices, LARGEST_STEP, |_| true, &mut spans);
         Search {
             network,
             prices,
-            step,
+            step: LARGEST_STEP,
             spans,
         }
     }

@@ -29,6 +29,7 @@ fn between(low: i64, high: i64) -> i64
 fn turn<C: Cost>(cost: &C, bar: i64) -> i64
     ensures { Turns (C.Cost.meaning cost.now) bar result }
 {
+    // The increments are asked of a cost and lie in no slice, so no search of the library finds the load.
     let mut low = cost.first_load();
     let mut high = cost.last_load();
     while low < high {
@@ -106,6 +107,7 @@ impl<C: Cost> Network<'_, C> {
         requires others { NarrowedWhere (λ a. FnReturnsAt F.Fn due (arc_at self.now.graph.arcs.now a) false) (network_of C.Cost.meaning self.now) (numbers prices.now) step (low_of spans.old) (high_of spans.old) }
         ensures { Narrowed (network_of C.Cost.meaning self.now) (numbers prices.now) step (low_of spans.new) (high_of spans.new) }
     {
+        // Of spans that are written through a zip of `iter_mut`, a proof knows nothing afterwards.
         for (a, (arc, cost)) in self.graph.arcs.iter().zip(self.costs).enumerate() {
             if due(arc) {
                 spans[a] = narrowed(cost, arc.tension(prices), step, spans[a]);
@@ -119,6 +121,7 @@ impl<C: Cost> Network<'_, C> {
         ensures lows { (a : ℕ) → a < length self.now.graph.arcs.now → low_of spans.new a ≡ pos (cost_of (map C.Cost.meaning self.now.costs.now) a).first }
         ensures highs { (a : ℕ) → a < length self.now.graph.arcs.now → high_of spans.new a ≡ pos (last (cost_of (map C.Cost.meaning self.now.costs.now) a)) }
     {
+        // By index, as the spans above.
         for (a, cost) in self.costs.iter().enumerate() {
             spans[a] = Span {
                 low: cost.first_load(),

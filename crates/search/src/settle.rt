@@ -30,7 +30,8 @@ impl<C: Cost> Network<'_, C> {
         ensures meets { OnOk result (Meets (network_of C.Cost.meaning self.now) (numbers loads.new)) }
         ensures barred { IfErr result (λ set. OverFull (network_of C.Cost.meaning self.now) (member set)) }
     {
-        let mut spans = [Span { low: 0, high: 0 }; MOST_ARCS];
+        // Settling takes no heap; places past the arcs are not read.
+        let mut spans = [Span::default(); MOST_ARCS];
         self.widen(&mut spans);
         hold(&spans[0..self.graph.arcs.len()], loads);
         meet(&self.graph, &spans, loads)
@@ -88,6 +89,7 @@ pub fn settle<C: Cost>(nodes: &mut [Node], arcs: &mut [Arc], costs: &[C]) -> Res
     ensures settled { OnOk result (Settled (net_of nodes.old arcs.old (map C.Cost.meaning costs.now)) nodes.new arcs.new) }
     ensures barred { OnErr result (Barred (net_of nodes.old arcs.old (map C.Cost.meaning costs.now)) nodes.new arcs.new) }
 {
+    // Settling takes no heap; places past the nodes and arcs are not read.
     let mut loads = [0; MOST_ARCS];
     let network = Network::of(Graph::of(nodes, arcs), costs);
     match network.solve(&mut loads) {
