@@ -11,8 +11,8 @@ use crate::ways::Way;
 use arrayvec::ArrayVec;
 use network::records::MOST_NODES;
 
-// The nodes that were reached, in the order in which they were. What the queue holds for sure is a record of facts about labels
-// too, which no field of a type can hold.
+// The nodes that were reached, in the order in which they were. What must hold of the queue is a record of facts about
+// the labels too, which no field of a type can hold.
 type Queue = ArrayVec<usize, MOST_NODES>;
 
 impl Loaded<'_> {
