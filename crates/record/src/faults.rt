@@ -1,10 +1,13 @@
 // What reading and writing a record refuse.
-ghost use Rattle.std.specs.Prelude.{◌≡◌};
+ghost use Rattle.std.specs.Prelude.{◌≡◌, ◌++◌, Some, codes};
+ghost use Rattle.cost.specs.Refusals.{refusal_text};
 ghost use Rattle.record.specs.Faults.{record_refusal, record_spot, writing_refusal};
 ghost use Rattle.record.specs.declared.faults.RecordFault.TheVariants.{Form};
 
 use cost::refusals::{CostFault, Layer, Refusal};
 use ledger::faults::DraftFault;
+use std::error::Error;
+use std::fmt;
 use text::cursor::Malformed;
 
 // A line of a text, from 1, and the field of it, from 1, if the refusal is of one field alone.
@@ -79,13 +82,6 @@ impl From<WritingFault> for Refusal {
 }
 
 impl RecordFault {
-    // The refusal that is reported for a fault of reading.
-    pub fn refusal(self) -> Refusal
-        ensures { result ≡ record_refusal self }
-    {
-        Refusal::from(self)
-    }
-
     // The line and the field that a refusal from below was met at; a refusal of the record itself names none.
     pub fn spot(self) -> Option<Spot>
         ensures { result ≡ record_spot self }
@@ -97,11 +93,24 @@ impl RecordFault {
     }
 }
 
-impl WritingFault {
-    // The refusal that is reported for a fault of writing.
-    pub fn refusal(self) -> Refusal
-        ensures { result ≡ writing_refusal self }
-    {
-        Refusal::from(self)
+impl fmt::Display for RecordFault {
+    ghost output = { λ fault. Some (codes "a record is refused: " ++ refusal_text (record_refusal fault)) };
+
+    // Writes the refusal, for a program that passes the fault on.
+    fn fmt<W: fmt::Write>(&self, f: &mut fmt::Formatter<W>) -> fmt::Result {
+        write!(f, "a record is refused: {}", Refusal::from(*self))
     }
 }
+
+impl Error for RecordFault {}
+
+impl fmt::Display for WritingFault {
+    ghost output = { λ fault. Some (codes "a record is not written: " ++ refusal_text (writing_refusal fault)) };
+
+    // Writes the refusal, for a program that passes the fault on.
+    fn fmt<W: fmt::Write>(&self, f: &mut fmt::Formatter<W>) -> fmt::Result {
+        write!(f, "a record is not written: {}", Refusal::from(*self))
+    }
+}
+
+impl Error for WritingFault {}
