@@ -28,11 +28,10 @@ pub(crate) struct Network {
 }
 
 // Feeds all supplies.
-fn feed_all(draft: Draft, supplies: &[i64]) -> Result<Draft, RecordFault>
+fn feed_all(mut draft: Draft, supplies: &[i64]) -> Result<Draft, RecordFault>
     requires { length supplies.now ≤ 64 }
     ensures { shown_by sketch_of result ≡ fed (sketch_of draft) 2 supplies.now }
 {
-    let mut draft = draft;
     for (i, supply) in supplies.iter().enumerate() {
         let spot = Spot {
             line: 2,
@@ -46,12 +45,11 @@ fn feed_all(draft: Draft, supplies: &[i64]) -> Result<Draft, RecordFault>
 }
 
 // Lays all arcs.
-fn lay_all(draft: Draft, tails: &[i64], heads: &[i64]) -> Result<Draft, RecordFault>
+fn lay_all(mut draft: Draft, tails: &[i64], heads: &[i64]) -> Result<Draft, RecordFault>
     requires few { length tails.now ≤ 256 }
     requires pairs { length tails.now ≡ length heads.now }
     ensures { shown_by sketch_of result ≡ laid (sketch_of draft) 2 tails.now heads.now }
 {
-    let mut draft = draft;
     let mut field = 2;
     for (tail, head) in tails.iter().zip(heads) {
         let spot = Spot {
