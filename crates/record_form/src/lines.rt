@@ -1,4 +1,7 @@
 // The lines of a record, each read in one step. A step that is refused leaves the cursor where it was.
+//
+// A step walks on a copy of the cursor and takes its place over at the end: two lines, where a closure for the walk would
+// ask for a contract that says the step once more.
 ghost use Rattle.std.specs.Prelude.{◌≡◌, ◌≤◌, length, pos, IfOk};
 ghost use Rattle.cost.specs.Meaning.{Between};
 ghost use Rattle.text.specs.Walks.{Makes, holding};
@@ -6,7 +9,8 @@ ghost use Rattle.record_form.specs.Lines.{count_at, first_line_at, list_at, row_
 ghost use Rattle.record_form.specs.Answers.{as_numbers};
 
 use cost::numbers::Limits;
-use cost::written::{Recorded, Row};
+use cost::written::{MOST_NUMBERS, Recorded, Row};
+use network::records::{MOST_ARCS, MOST_NODES};
 use text::cursor::{Cursor, Malformed};
 
 // The words that begin the lines.
@@ -20,12 +24,8 @@ pub const HEADS: &[u8] = b"to";
 
 pub const COST: &[u8] = b"c";
 
-pub const MOST_NODES: i64 = 64;
-
-pub const MOST_ARCS: i64 = 256;
-
 // As many numbers as follow the first of a row at most.
-const MOST_FURTHER: usize = 18;
+const MOST_FURTHER: usize = MOST_NUMBERS - 1;
 
 // What the first line says: how many nodes and how many arcs the network has.
 #[derive(Clone, Copy)]
@@ -61,8 +61,8 @@ pub fn first_line(cursor: &mut Cursor<'_>, letter: char) -> Result<Counts, Malfo
     ahead.word(NET)?;
     ahead.space()?;
     ahead.letter(letter)?;
-    let nodes = count(&mut ahead, MOST_NODES)?;
-    let arcs = count(&mut ahead, MOST_ARCS)?;
+    let nodes = count(&mut ahead, MOST_NODES as i64)?;
+    let arcs = count(&mut ahead, MOST_ARCS as i64)?;
     ahead.line_end()?;
     cursor.at = ahead.at;
     Ok(Counts { nodes, arcs })
@@ -107,6 +107,7 @@ pub fn row<W: Recorded>(cursor: &mut Cursor<'_>) -> Result<Row, Malformed>
     let Some(count) = W::row_length(first) else {
         return Err(Malformed { offset: start });
     };
+    // As many numbers are read as the list that is lent is long, so that no count stands beside it.
     let mut further = [0; MOST_FURTHER];
     let row = row_end(&mut ahead, first, &mut further[0..count - 1])?;
     cursor.at = ahead.at;
