@@ -23,13 +23,13 @@ fn is_natural(digits: &[u8]) -> bool
     }
 }
 
-fn digits_value(digits: &[u8]) -> u64
+fn digits_value(digits: &[u8]) -> i64
     requires { is_natural digits.now ≡ true }
-    ensures { result ≡ value_after 0 digits.now }
+    ensures { result ≡ pos (value_after 0 digits.now) }
 {
     let mut number = 0;
     for digit in digits {
-        number = 10 * number + u64::from(*digit - b'0');
+        number = 10 * number + i64::from(*digit - b'0');
     }
     number
 }
@@ -41,7 +41,7 @@ fn natural_in(digits: &[u8]) -> Option<i64>
     if !is_natural(digits) {
         return None;
     }
-    Some(digits_value(digits) as i64)
+    Some(digits_value(digits))
 }
 
 // The number that a field writes; no minus stands before 0.
