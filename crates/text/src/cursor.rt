@@ -113,7 +113,7 @@ impl<'a> Cursor<'a> {
         Ok(())
     }
 
-    // Walks past a field that is the given letter.
+    // Walks past a field that is the given letter, which is a character and no list of bytes, as a word is.
     #[tactic(auto, unfolding(crate::specs::Steps::word_at))]
     pub fn letter(&mut self, letter: char) -> Result<(), Malformed>
         ensures { Makes (λ text at. word_at text at (letter ∷ [])) self.old self.new result }
