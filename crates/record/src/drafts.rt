@@ -128,6 +128,7 @@ pub(crate) fn network_lines<W: Recorded>(
     ensures arcs { IfOk result (λ net. (net.arcs ≤ 256) × (net.arcs ≤ places)) }
 {
     let Begun { draft, nodes, arcs } = net_line::<W>(cursor, places)?;
+    // As many numbers are read as the list that is lent is long, so that no count stands beside it.
     let mut supplies = [0; MOST_NODES];
     let mut tails = [0; MOST_ARCS];
     let mut heads = [0; MOST_ARCS];

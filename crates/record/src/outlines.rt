@@ -12,7 +12,8 @@ use record_form::setting::{line_length, write_line};
 use sheet::sheets::{MOST_ARCS, MOST_NODES, Sheet};
 use text::writing::Writer;
 
-// The first four lines: how the first line starts, its counts, and the lists of the other three.
+// The first four lines: how the first line starts, its counts, and the lists of the other three. The start is one list
+// of bytes, as `write_line` asks for: the word `net`, a space and the letter.
 #[derive(Drop)]
 pub(crate) struct Outline {
     start: [u8; 5],
@@ -21,7 +22,7 @@ pub(crate) struct Outline {
     ends: Ends,
 }
 
-// The tails and the heads of arcs, as the numbers of their nodes.
+// The tails and the heads of arcs, as the numbers of their nodes: two lists, for each is written as a line of its own.
 #[derive(Drop)]
 struct Ends {
     tails: ArrayVec<i64, MOST_ARCS>,
@@ -46,7 +47,7 @@ fn ends_at(sheet: &Sheet, place: usize) -> (i64, i64)
     (tail as i64, head as i64)
 }
 
-// The supplies of all nodes.
+// The supplies of all nodes, each asked for by its place, for a sheet lends no list of its nodes.
 fn supplies_of(sheet: &Sheet) -> ArrayVec<i64, MOST_NODES>
     ensures { result.items ≡ supplies_of (book_of sheet.now).nodes }
 {
@@ -57,7 +58,7 @@ fn supplies_of(sheet: &Sheet) -> ArrayVec<i64, MOST_NODES>
     supplies
 }
 
-// The ends of all arcs.
+// The ends of all arcs, each asked for by its place, for a sheet lends no list of its arcs.
 fn ends_of(sheet: &Sheet) -> Ends
     ensures tails { result.tails.items ≡ tails_of (book_of sheet.now).arcs }
     ensures heads { result.heads.items ≡ heads_of (book_of sheet.now).arcs }
