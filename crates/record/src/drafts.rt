@@ -50,6 +50,7 @@ fn lay_all(mut draft: Draft, tails: &[i64], heads: &[i64]) -> Result<Draft, Reco
     requires pairs { length tails.now ≡ length heads.now }
     ensures { shown_by sketch_of result ≡ laid (sketch_of draft) 2 tails.now heads.now }
 {
+    // The field is counted beside the pairs, for no lemma tells what a zip of two lists yields where it is numbered.
     let mut field = 2;
     for (tail, head) in tails.iter().zip(heads) {
         let spot = Spot {
