@@ -42,6 +42,7 @@ impl Random {
         ensures value { result ≡ drawn (advanced self.old.state) length }
         ensures limit { result < length }
     {
+        // usize and u64 have no From into each other; the proof shows that both casts keep the number
         self.below(length as u64) as usize
     }
 
@@ -55,6 +56,7 @@ impl Random {
         ensures low { low ≤ℤ result }
         ensures high { result ≤ℤ high }
     {
+        // the count is above 0 and at most 2,000,000, so the proof shows that both casts keep the number
         low + self.below((high - low + 1) as u64) as i64
     }
 }
