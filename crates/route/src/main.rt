@@ -4,15 +4,15 @@
 mod example;
 mod tariff;
 
-use anyhow::anyhow;
+use anyhow::Context;
 use example::{draft, tariffs};
 use sheet::sheets::Sheet;
 use tariff::{print_answer, print_table};
 
 fn run(rt: &HostRuntime) -> anyhow::Result<()> {
     let mut sheet = Sheet::blank();
-    draft(&mut sheet).map_err(|_| anyhow!("the draft is refused"))?;
-    let costs = tariffs().map_err(|_| anyhow!("a cost is refused"))?;
+    draft(&mut sheet).context("the draft is refused")?;
+    let costs = tariffs().context("a cost is refused")?;
     for (a, cost) in costs.iter().enumerate() {
         println!(rt; "arc {}", a + 1)?;
         print_table(rt, cost)?;
