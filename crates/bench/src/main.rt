@@ -6,7 +6,7 @@ mod measure;
 mod networks;
 
 use kinds::Kind;
-use measure::measure;
+use measure::Bench;
 use networks::{Plan, Shape};
 use quadratic_cost::quadratic::Quadratic;
 use std::env;
@@ -40,18 +40,19 @@ fn plans() -> [Plan; 17] {
 }
 
 // All networks with costs of one kind.
-fn all_of<C: Kind>(rt: &HostRuntime, timed: bool) -> anyhow::Result<()> {
+fn all_of<C: Kind>(bench: Bench) -> anyhow::Result<()> {
     for plan in plans() {
-        measure::<C>(rt, timed, plan)?;
+        bench.measure::<C>(plan)?;
     }
     Ok(())
 }
 
 fn run(rt: &HostRuntime) -> anyhow::Result<()> {
     let timed = env::args(rt)?.any(|word| word.as_str() == "time");
+    let bench = Bench { rt, timed };
     println!(rt; "kind shape nodes arcs requests")?;
-    all_of::<Stepped>(rt, timed)?;
-    all_of::<Quadratic>(rt, timed)
+    all_of::<Stepped>(bench)?;
+    all_of::<Quadratic>(bench)
 }
 
 fn main(rt: HostRuntime) -> anyhow::Result<()> {

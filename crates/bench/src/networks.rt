@@ -89,6 +89,7 @@ impl Plan {
         }
     }
 
+    // The heap is a handle that each function that allocates names.
     // The supplies: along a chain all requests go from end to end, and on a ring they go in shares between random nodes.
     pub(crate) fn supplies(
         self,
@@ -113,6 +114,7 @@ impl Plan {
         random: &mut Random,
         sheet: &mut Sheet,
     ) -> Result<(), DraftFault> {
+        // usize has no From into i64; the proof shows that the casts keep the numbers
         let mut feeding = begin(sheet, size(self.nodes as i64)?);
         for supply in supplies {
             feeding.feed(*supply)?;
