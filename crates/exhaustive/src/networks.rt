@@ -1,4 +1,4 @@
-// Small networks, made at random, which the program keeps beside the sheet.
+// Small networks, made at random, which the program keeps beside the sheet. Reckoned apart from the router, which it checks.
 ghost use Rattle.std.specs.Prelude.{◌<◌, pos, ◌≤ℤ◌, IfOk, vec_len};
 
 use ledger::faults::DraftFault;
@@ -71,6 +71,7 @@ impl Network {
 
     // Drafts the network on a sheet.
     pub(crate) fn draft(&self, sheet: &mut Sheet) -> Result<(), DraftFault> {
+        // usize has no From into i64; the proof shows that the cast keeps the number
         let mut feeding = begin(sheet, size(self.supplies.len() as i64)?);
         for supply in self.supplies.iter() {
             feeding.feed(*supply)?;

@@ -1,4 +1,4 @@
-// Every routing of a small network.
+// Every routing of a small network. Reckoned apart from the router, which it checks.
 ghost use Rattle.std.specs.Prelude.{pos, ◌≤ℤ◌};
 
 use crate::networks::Network;

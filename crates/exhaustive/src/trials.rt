@@ -3,7 +3,7 @@ ghost use Rattle.std.specs.Prelude.{◌≡◌, ◌<◌, vec_len};
 
 use crate::kinds::Small;
 use crate::networks::Network;
-use anyhow::anyhow;
+use anyhow::{Context, anyhow};
 use random::Random;
 use sheet::sheets::Sheet;
 use std::alloc::Global;
@@ -18,7 +18,7 @@ pub(crate) struct Trial<C> {
 
 // A cost of a kind, made at random.
 fn random_cost<C: Small>(random: &mut Random) -> anyhow::Result<C> {
-    C::made(random).map_err(|_| anyhow!("a cost is refused"))
+    C::made(random).context("a cost is refused")
 }
 
 // A cost for each of so many arcs.
@@ -41,9 +41,7 @@ impl<C: Small> Trial<C> {
     pub(crate) fn made(heap: Global, random: &mut Random) -> anyhow::Result<Trial<C>> {
         let network = Network::made(heap, random)?;
         let mut sheet = Sheet::blank();
-        network
-            .draft(&mut sheet)
-            .map_err(|_| anyhow!("a draft is refused"))?;
+        network.draft(&mut sheet).context("a draft is refused")?;
         let costs = random_costs::<C>(heap, random, network.arcs.len())?;
         Ok(Trial {
             network,
@@ -61,7 +59,7 @@ impl<C: Small> Trial<C> {
         self.network.supplies[v] = amount;
         self.sheet
             .supply(v as i64 + 1, amount)
-            .map_err(|_| anyhow!("a supply is refused"))
+            .context("a supply is refused")
     }
 
     // Moves requests from the supply of a node to that of another.
@@ -83,6 +81,6 @@ impl<C: Small> Trial<C> {
         let arc = random.place(arcs) as i64 + 1;
         self.sheet
             .swap(arc, cost, self.costs.as_mut_slice())
-            .map_err(|_| anyhow!("a swap is refused"))
+            .context("a swap is refused")
     }
 }
