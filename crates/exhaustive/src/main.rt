@@ -4,6 +4,7 @@
 
 mod compare;
 mod kinds;
+mod makers;
 mod networks;
 mod routings;
 mod trials;

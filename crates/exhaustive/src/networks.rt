@@ -1,12 +1,13 @@
 // Small networks, made at random, which the program keeps beside the sheet. Reckoned apart from the router, which it checks.
 ghost use Rattle.std.specs.Prelude.{◌<◌, pos, ◌≤ℤ◌, IfOk, vec_len};
 
+use crate::makers::Maker;
 use ledger::faults::DraftFault;
 use random::Random;
 use sheet::sheets::Sheet;
 use sheet::sheets::drafting::stages::begin;
 use sheet::sheets::drafting::steps::size;
-use std::alloc::{AllocError, Global};
+use std::alloc::AllocError;
 
 // The supply of each node, and the tail and the head of each arc. Nodes have numbers from 1.
 #[derive(Drop)]
@@ -17,17 +18,17 @@ pub(crate) struct Network {
 }
 
 // Supplies that sum to 0, but for one time in eight.
-fn random_supplies(heap: Global, random: &mut Random, nodes: i64) -> Result<Vec<i64>, AllocError>
+fn random_supplies(maker: &mut Maker, nodes: i64) -> Result<Vec<i64>, AllocError>
     ensures { IfOk result (λ supplies. 0 < vec_len supplies) }
 {
-    let mut supplies = Vec::new(heap);
+    let mut supplies = Vec::new(maker.heap);
     let mut sum = 0i64;
     for _ in 1..nodes {
-        let supply = random.between(-2, 2);
+        let supply = maker.random.between(-2, 2);
         sum = sum.wrapping_add(supply);
         supplies.push(supply)?;
     }
-    let astray = (random.between(0, 7) - 6).max(0);
+    let astray = (maker.random.between(0, 7) - 6).max(0);
     supplies.push(astray.wrapping_sub(sum))?;
     Ok(supplies)
 }
@@ -47,14 +48,14 @@ fn random_ends(random: &mut Random, nodes: i64) -> (i64, i64)
 }
 
 // Up to five arcs, and none where there is one node.
-fn random_arcs(heap: Global, random: &mut Random, nodes: i64) -> Result<Vec<(i64, i64)>, AllocError>
+fn random_arcs(maker: &mut Maker, nodes: i64) -> Result<Vec<(i64, i64)>, AllocError>
     requires { nodes ≤ℤ pos 4 }
 {
-    let mut arcs = Vec::new(heap);
+    let mut arcs = Vec::new(maker.heap);
     if nodes > 1 {
-        let count = random.place(6).max(random.place(6));
+        let count = maker.random.place(6).max(maker.random.place(6));
         for _ in 0..count {
-            arcs.push(random_ends(random, nodes))?;
+            arcs.push(random_ends(&mut maker.random, nodes))?;
         }
     }
     Ok(arcs)
@@ -62,10 +63,10 @@ fn random_arcs(heap: Global, random: &mut Random, nodes: i64) -> Result<Vec<(i64
 
 impl Network {
     // Makes one to four nodes and up to five arcs.
-    pub(crate) fn made(heap: Global, random: &mut Random) -> Result<Network, AllocError> {
-        let nodes = random.between(1, 4);
-        let supplies = random_supplies(heap, random, nodes)?;
-        let arcs = random_arcs(heap, random, nodes)?;
+    pub(crate) fn made(maker: &mut Maker) -> Result<Network, AllocError> {
+        let nodes = maker.random.between(1, 4);
+        let supplies = random_supplies(maker, nodes)?;
+        let arcs = random_arcs(maker, nodes)?;
         Ok(Network { supplies, arcs })
     }
 

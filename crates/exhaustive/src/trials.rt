@@ -2,11 +2,11 @@
 ghost use Rattle.std.specs.Prelude.{◌≡◌, ◌<◌, vec_len};
 
 use crate::kinds::Small;
+use crate::makers::Maker;
 use crate::networks::Network;
 use anyhow::{Context, anyhow};
 use random::Random;
 use sheet::sheets::Sheet;
-use std::alloc::Global;
 
 // A network, the sheet that it is drafted on, and a cost for each of its arcs.
 #[derive(Drop)]
@@ -22,15 +22,11 @@ fn random_cost<C: Small>(random: &mut Random) -> anyhow::Result<C> {
 }
 
 // A cost for each of so many arcs.
-fn random_costs<C: Small>(
-    heap: Global,
-    random: &mut Random,
-    arcs: usize,
-) -> anyhow::Result<Vec<C>> {
-    let mut costs = Vec::new(heap);
+fn random_costs<C: Small>(maker: &mut Maker, arcs: usize) -> anyhow::Result<Vec<C>> {
+    let mut costs = Vec::new(maker.heap);
     for _ in 0..arcs {
         costs
-            .push(random_cost(random)?)
+            .push(random_cost(&mut maker.random)?)
             .map_err(|_| anyhow!("there is no memory for the costs"))?;
     }
     Ok(costs)
@@ -38,11 +34,11 @@ fn random_costs<C: Small>(
 
 impl<C: Small> Trial<C> {
     // Makes a network and its costs, and drafts it.
-    pub(crate) fn made(heap: Global, random: &mut Random) -> anyhow::Result<Trial<C>> {
-        let network = Network::made(heap, random)?;
+    pub(crate) fn made(maker: &mut Maker) -> anyhow::Result<Trial<C>> {
+        let network = Network::made(maker)?;
         let mut sheet = Sheet::blank();
         network.draft(&mut sheet).context("a draft is refused")?;
-        let costs = random_costs::<C>(heap, random, network.arcs.len())?;
+        let costs = random_costs::<C>(maker, network.arcs.len())?;
         Ok(Trial {
             network,
             sheet,

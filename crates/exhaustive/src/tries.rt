@@ -1,6 +1,7 @@
 // Networks tried one after another, and the tally of the outcomes.
 use crate::compare::Outcome;
 use crate::kinds::Small;
+use crate::makers::Maker;
 use crate::trials::Trial;
 use random::Random;
 use std::alloc::Global;
@@ -32,22 +33,23 @@ impl Tally {
 }
 
 // Makes a network, settles it, edits its supplies, settles it, swaps a cost, and settles it again.
-fn try_one<C: Small>(heap: Global, random: &mut Random, tally: &mut Tally) -> anyhow::Result<()> {
-    let mut trial = Trial::<C>::made(heap, random)?;
-    tally.count(trial.compare(heap)?);
-    trial.edit_supplies(random)?;
-    tally.count(trial.compare(heap)?);
-    trial.edit_cost(random)?;
-    tally.count(trial.compare(heap)?);
+fn try_one<C: Small>(maker: &mut Maker, tally: &mut Tally) -> anyhow::Result<()> {
+    let mut trial = Trial::<C>::made(maker)?;
+    tally.count(trial.compare(maker.heap)?);
+    trial.edit_supplies(&mut maker.random)?;
+    tally.count(trial.compare(maker.heap)?);
+    trial.edit_cost(&mut maker.random)?;
+    tally.count(trial.compare(maker.heap)?);
     Ok(())
 }
 
 // Tries networks of one kind of cost.
 pub(crate) fn try_many<C: Small>(heap: Global, networks: u64) -> anyhow::Result<Tally> {
-    let mut random = Random::new(SEED);
+    let random = Random::new(SEED);
+    let mut maker = Maker { heap, random };
     let mut tally = Tally::default();
     for _ in 0..networks {
-        try_one::<C>(heap, &mut random, &mut tally)?;
+        try_one::<C>(&mut maker, &mut tally)?;
     }
     Ok(tally)
 }
