@@ -2,7 +2,7 @@
 // under `time` to see what a reading takes.
 #![tactic(auto)]
 
-use anyhow::{anyhow, ensure};
+use anyhow::{Context, anyhow, ensure};
 use ledger::faults::DraftFault;
 use record::reading::read;
 use record::writing::write;
@@ -36,7 +36,7 @@ fn accepted(text: &[u8], places: &mut [Stepped]) -> usize {
 }
 
 fn run(rt: &HostRuntime) -> anyhow::Result<()> {
-    let sheet = largest().map_err(|_| anyhow!("the draft is refused"))?;
+    let sheet = largest().context("the draft is refused")?;
     let cost = Stepped {
         first: 1_000,
         opening: -1_000_000_000,
