@@ -15,6 +15,7 @@ const SEED: u64 = 1;
 const ROUNDS: usize = 15;
 
 // A cost for each arc of a network.
+// Each program draws costs of its own make.
 fn costs_of<C: Kind>(heap: Global, plan: Plan, random: &mut Random) -> anyhow::Result<Vec<C>> {
     let mut costs = Vec::new(heap);
     for arc in 0..plan.arcs {

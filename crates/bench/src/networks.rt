@@ -89,8 +89,8 @@ impl Plan {
         }
     }
 
-    // The heap is a handle that each function that allocates names.
     // The supplies: along a chain all requests go from end to end, and on a ring they go in shares between random nodes.
+    // The heap is a handle that each function that allocates names.
     pub(crate) fn supplies(
         self,
         heap: Global,
