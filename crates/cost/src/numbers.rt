@@ -1,6 +1,6 @@
 // Numbers that are handed over, and the limits within which they must lie.
-ghost use Rattle.std.specs.Prelude.{◌≡◌, ◌+◌, ◌^◌, ◌<◌, length, not, position};
-ghost use Rattle.cost.specs.Limits.{within, outside, first_outside, outside_each};
+ghost use Rattle.std.specs.Prelude.{◌≡◌, not, position};
+ghost use Rattle.cost.specs.Limits.{within, outside, first_outside};
 ghost use Rattle.std.specs.Result.{result_err};
 
 // The lowest and the highest number that is accepted.
@@ -75,16 +75,5 @@ impl Limits {
         ensures { result ≡ first_outside self numbers.now }
     {
         self.position_outside(numbers).map(|index| index + 1)
-    }
-
-    // Refuses the first number of a list outside the limits; `before` numbers of the call stand before the list.
-    pub fn check_each(self, numbers: &[i64], before: usize) -> Result<(), NumberFault>
-        requires { before + length numbers.now < 2 ^ 64 }
-        ensures { result_err result ≡ outside_each self before numbers.now }
-    {
-        match self.first_outside(numbers) {
-            Some(place) => Err(NumberFault::Outside(before + place)),
-            None => Ok(()),
-        }
     }
 }

@@ -1,9 +1,11 @@
 -- What is known of lists of which a check refused nothing.
-use Rattle.std.proofs.Common.{◌≡◌, ℕ, zero, suc, ◌&&◌, eqb, List, [], ◌∷◌, map, ℤ, None, sym, arith}
+use Rattle.std.proofs.Common.{◌≡◌, ℕ, zero, suc, ◌+◌, ◌&&◌, eqb, List, [], ◌∷◌, map, ℤ, None, sym, ap, arith}
+use Rattle.std.specs.Option.{option_map}
 use Rattle.std.proofs.lemmas.Int.{ints}
 use Rattle.std.proofs.lemmas.Bool.Decides.{nat_tests}
-use Rattle.cost.specs.Limits.{outside_each}
+use Rattle.cost.specs.Limits.{first_outside}
 use Rattle.cost.specs.Meaning.{Meaning, Lawful}
+use Rattle.cost.specs.declared.numbers.NumberFault.TheVariants.{Outside}
 use Rattle.cost.proofs.Lists.{empty_lawful}
 use Rattle.cost.proofs.Refusing.{passed, both, all_inside}
 use Rattle.network.specs.Records.{cost_of, Ranged, Within}
@@ -31,5 +33,5 @@ small_loads costs loads law ranged a h =
     omega (arith, ints, (law a).last_limit, range.0, range.1)
 
 -- prices of which none lies outside its limits
-pub within_prices : (prices : List ℤ) → None ≡ outside_each price_limits 0 prices → Within 100000000 prices
-within_prices prices e k h = all_inside price_limits 0 prices (sym e) k h
+pub within_prices : (prices : List ℤ) → None ≡ first_outside price_limits prices → Within 100000000 prices
+within_prices prices e k h = all_inside price_limits 0 prices (ap (option_map (λ n. Outside (0 + n))) (sym e)) k h

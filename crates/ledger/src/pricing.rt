@@ -11,6 +11,7 @@ ghost use Rattle.ledger.specs.declared.faults.SheetFault.TheVariants.{List};
 use crate::faults::SheetFault;
 pub use crate::limits::PRICES;
 use cost::costs::Cost;
+use cost::numbers::NumberFault;
 use network::charge::charge_of;
 use network::graph::Graph;
 use network::routing::first_out_of_range;
@@ -61,6 +62,8 @@ pub fn floored<C: Cost>(graph: &Graph<'_>, costs: &[C], prices: &[i64]) -> Resul
     let nodes = graph.nodes.len();
     let arcs = graph.arcs.len();
     check_lists(costs.len(), arcs, prices.len(), nodes)?;
-    PRICES.check_each(prices, 0)?;
+    if let Some(node) = PRICES.first_outside(prices) {
+        return Err(SheetFault::Number(NumberFault::Outside(node)));
+    }
     Ok(graph.floor_of(costs, prices))
 }

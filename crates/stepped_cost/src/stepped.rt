@@ -1,8 +1,9 @@
 // The stepped cost: pieces of so many requests each, at one increment a piece.
-ghost use Rattle.std.specs.Prelude.{◌≡◌, ◌≤◌, drop, int_lt, position, true, false, not, length, pos, ◌≤ℤ◌, is_some, IfOk, IfSome, if◌then◌else◌, Some, None, slice_index_or};
+ghost use Rattle.std.specs.Prelude.{◌≡◌, ◌+◌, ◌^◌, ◌<◌, ◌≤◌, drop, int_lt, position, true, false, not, length, pos, ◌≤ℤ◌, is_some, IfOk, IfSome, if◌then◌else◌, Some, None, slice_index_or};
 ghost use Rattle.std.specs.List.{slice_get, zip};
 ghost use Rattle.std.specs.Option.{option_map};
 ghost use Rattle.std.specs.Result.{result_err};
+ghost use Rattle.cost.specs.Limits.{outside_each};
 ghost use Rattle.cost.specs.Meaning.{natural, total, Between, AllBetween};
 ghost use Rattle.cost.specs.Places.{first_place, unless};
 ghost use Rattle.cost.specs.Rows.{whole_row};
@@ -14,7 +15,7 @@ ghost use Rattle.stepped_cost.specs.StepRowsLemmas.{honest, long_tells};
 ghost use Rattle.std.proofs.Common.{rules};
 
 use cost::costs::Cost;
-use cost::numbers::{COUNTS, INCREMENTS, LOADS, NumberFault, OPENINGS, WIDTHS};
+use cost::numbers::{COUNTS, INCREMENTS, LOADS, Limits, NumberFault, OPENINGS, WIDTHS};
 use cost::refusals::CostFault;
 use cost::written::{Recorded, Row, Written};
 
@@ -29,6 +30,17 @@ pub struct Stepped {
     pub count: usize,
     pub widths: [i64; MOST_PIECES],
     pub slopes: [i64; MOST_PIECES],
+}
+
+// Refuses the first number of a list outside the limits; `before` numbers of the call stand before the list.
+fn check_each(limits: Limits, numbers: &[i64], before: usize) -> Result<(), NumberFault>
+    requires { before + length numbers.now < 2 ^ 64 }
+    ensures { result_err result ≡ outside_each limits before numbers.now }
+{
+    match limits.first_outside(numbers) {
+        Some(place) => Err(NumberFault::Outside(before + place)),
+        None => Ok(()),
+    }
 }
 
 // Widths and slopes side by side, as many of one as of the other and at most eight.
@@ -59,8 +71,8 @@ impl<'a> Steps<'a> {
     {
         LOADS.check(first, 1)?;
         OPENINGS.check(opening, 2)?;
-        WIDTHS.check_each(self.widths, 2)?;
-        INCREMENTS.check_each(self.slopes, 2 + self.widths.len())
+        check_each(WIDTHS, self.widths, 2)?;
+        check_each(INCREMENTS, self.slopes, 2 + self.widths.len())
     }
 
     // Refuses the first piece at which the first load and the widths pass the limit of a load.
