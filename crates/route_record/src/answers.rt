@@ -126,6 +126,7 @@ fn letter_of(text: &[u8]) -> Option<char> {
 }
 
 // The answer to a record, whose kind of cost its letter tells.
+// The places stand here, since an array of a type parameter has no size that a proof knows.
 fn answer_by_letter(text: &[u8]) -> Answer {
     match letter_of(text) {
         Some('Q') => answer_with(
