@@ -47,12 +47,14 @@ pub(crate) fn label_sources(graph: &Graph<'_>, surpluses: &[i64], labels: &mut [
     requires long { length graph.now.nodes.now ≤ length labels.old }
     ensures { (v : ℕ) → v < length graph.now.nodes.now → label_of labels.new v ≡ source (numbers surpluses.now v) }
 {
+    // Of labels that are written through a zip of `iter_mut`, a proof knows nothing afterwards.
     for (v, label) in labels[..graph.nodes.len()].iter_mut().enumerate() {
         *label = source(surpluses[v]);
     }
 }
 
-// Reaches a node by a step with room from a node that was reached, unless it was reached before.
+// Reaches a node by a step with room from a node that was reached, unless it was reached before. Answers, as the insert of a set does,
+// whether there is one more.
 fn extend(labels: &mut [Option<Label>], step: Step, to: usize, room: i64) -> bool
     requires start { step.from < length labels.old }
     requires end { to < length labels.old }

@@ -55,6 +55,7 @@ impl Graph<'_> {
         requires limits { Within 10000 loads.now }
         ensures { result ≡ unmet (net_in self.now []) (numbers loads.now) }
     {
+        // A surplus is asked by the number of its node, so nodes are counted.
         for node in 0..self.nodes.len() {
             if self.surplus_at(loads, node) != 0 {
                 return Some(node + 1);
