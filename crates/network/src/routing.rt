@@ -34,6 +34,7 @@ impl Arc {
     }
 }
 
+// Loads and prices are lists of the caller's, so each call asks that they are as long as the arcs or the nodes.
 impl Graph<'_> {
     // The supply of a node and the loads that enter it, less the loads that leave it. No cost enters into it.
     pub fn surplus_at(&self, loads: &[i64], node: usize) -> i64

@@ -13,7 +13,7 @@ use stepped_cost::stepped::Stepped;
 
 const TURNS: usize = 200;
 
-// The book of 64 nodes and 256 arcs.
+// The book of 64 nodes and 256 arcs; the tests of records make the same, of which a program can take nothing.
 fn largest() -> Result<Sheet, DraftFault> {
     let mut draft = Draft::new(size(64)?);
     for _ in 0..MOST_NODES {

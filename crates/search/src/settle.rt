@@ -24,7 +24,8 @@ pub struct NoRouting;
 impl<C: Cost> Network<'_, C> {
     ghost use Rattle.search.specs.Networks.{network_of};
 
-    // Changes the loads into some routing that meets the network; where there is none, it answers a set of nodes that is over full.
+    // Changes the loads into some routing that meets the network; where there is none, it answers a set of nodes that is over full. The loads
+    // are written, here and below, and lie in a list of the caller's.
     fn route(&self, loads: &mut [i64]) -> Result<(), NodeSet>
         requires { length self.now.graph.arcs.now ≤ length loads.old }
         ensures meets { OnOk result (Meets (network_of C.Cost.meaning self.now) (numbers loads.new)) }

@@ -75,7 +75,8 @@ impl<'a> Steps<'a> {
         check_each(INCREMENTS, self.slopes, 2 + self.widths.len())
     }
 
-    // Refuses the first piece at which the first load and the widths pass the limit of a load.
+    // Refuses the first piece at which the first load and the widths pass the limit of a load. That the widths lie within their limits is
+    // known only once they were checked, so it is asked here and below, and is no part of the type.
     // A loop, since the sum goes on from each piece to the next.
     fn check_length(self, first: i64) -> Result<(), CostFault>
         requires first { Between (pos 0) (pos 10000) first }
