@@ -11,7 +11,7 @@ use stepped_cost::stepped::{MOST_PIECES, Stepped};
 // How much a slope can lie above the least that its piece may have.
 const RISE: i64 = 100_000;
 
-// A kind of cost of which there are random ones. Each program draws costs of its own make.
+// A kind of cost of which there are random ones. The programs share no costs, so that what checks the router stands apart from what measures it.
 pub(crate) trait Kind: Cost + Copy {
     const WORD: &'static str;
 

@@ -15,7 +15,7 @@ const SEED: u64 = 1;
 const ROUNDS: usize = 15;
 
 // A cost for each arc of a network.
-// Each program draws costs of its own make.
+// The programs share no costs, so that what checks the router stands apart from what measures it.
 fn costs_of<C: Kind>(heap: Global, plan: Plan, random: &mut Random) -> anyhow::Result<Vec<C>> {
     let mut costs = Vec::new(heap);
     for arc in 0..plan.arcs {

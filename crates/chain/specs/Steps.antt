@@ -13,12 +13,6 @@ use Rattle.chain.specs.declared.calls.Kind.{Kind}
 use Rattle.chain.specs.declared.calls.Kind.TheVariants as kind
 use Rattle.chain.specs.declared.calls.Progress.{Progress}
 
--- Which of the three calls it is.
-abbrev pub kind_of : {C : Type 0} → Call C → Kind
-kind_of (call.Supply node amount) = kind.Supply
-kind_of (call.Swap arc cost) = kind.Swap
-kind_of call.Settle = kind.Settle
-
 -- After an edit that was accepted nothing is known of settling.
 abbrev pub after_edit : Kind → Progress
 after_edit k = record { last = Some k; answer = None }

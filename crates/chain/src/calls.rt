@@ -2,7 +2,8 @@
 ghost use Rattle.std.specs.Prelude.{◌≡◌};
 ghost use Rattle.std.specs.Result.{result_err};
 ghost use Rattle.cost.specs.Places.{kept_or};
-ghost use Rattle.chain.specs.Steps.{after_edit, after_settling, kind_of};
+ghost use Rattle.chain.specs.Chains.{kind_of};
+ghost use Rattle.chain.specs.Steps.{after_edit, after_settling};
 
 use ledger::faults::SheetFault;
 use ledger::settling::Amounts;

@@ -6,7 +6,7 @@ use quadratic_cost::quadratic::Quadratic;
 use random::Random;
 use stepped_cost::stepped::Stepped;
 
-// A kind of cost of which there are small random ones, with at most five loads each. Each program draws costs of its own make.
+// A kind of cost of which there are small random ones, with at most five loads each. The programs share no costs, so that what checks the router stands apart from what measures it.
 pub(crate) trait Small: Cost + Copy {
     const WORD: &'static str;
 

@@ -22,7 +22,7 @@ fn random_cost<C: Small>(random: &mut Random) -> anyhow::Result<C> {
 }
 
 // A cost for each of so many arcs.
-// Each program draws costs of its own make.
+// The programs share no costs, so that what checks the router stands apart from what measures it.
 fn random_costs<C: Small>(maker: &mut Maker, arcs: usize) -> anyhow::Result<Vec<C>> {
     let mut costs = Vec::new(maker.heap);
     for _ in 0..arcs {

@@ -87,7 +87,7 @@ pub fn meet(graph: &Graph<'_>, spans: &[Span], loads: &mut [i64]) -> Result<(), 
         entering: &entering,
     };
     let mut surpluses = surpluses_of(graph, loads);
-    // Settling takes no heap; places past the nodes are not read.
+    // Settling takes no heap; places past the nodes stay empty.
     let mut labels = [None; MOST_NODES];
     while let Some(over) = first_over(graph, &surpluses) {
         relieve(

@@ -76,8 +76,8 @@ fn extend(labels: &mut [Option<Label>], step: Step, to: usize, room: i64) -> boo
     fresh
 }
 
-// A node that was reached and has a negative surplus. Surpluses change while the graph is lent, so that there is one for each node is asked
-// of each call.
+// A node that was reached and has a negative surplus. Surpluses change while the graph is lent, so each call asks that there is one for each
+// node.
 pub(crate) fn first_short(
     graph: &Graph<'_>,
     surpluses: &[i64],

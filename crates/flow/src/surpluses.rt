@@ -8,12 +8,13 @@ ghost use Rattle.flow.specs.Surpluses.{Tells};
 use network::graph::Graph;
 use network::records::{MOST_NODES, Node};
 
-// The supply of each node. There are more places than nodes, so each node writes its own.
+// The supply of each node.
 fn supplies_of(nodes: &[Node]) -> [i64; MOST_NODES]
     requires { length nodes.now ≤ MOST_NODES }
     ensures { (v : ℕ) → v < length nodes.now → at result v ≡ (net_of nodes.now [] []).supply v }
 {
     let mut supplies = [0; MOST_NODES];
+    // Of supplies that are written through a zip of `iter_mut`, a proof knows nothing afterwards.
     for (v, node) in nodes.iter().enumerate() {
         supplies[v] = node.supply;
     }

@@ -12,6 +12,7 @@ pub enum Way {
     Against,
 }
 
+// Where a step starts and where it ends are two calls of two lines: each is the other with the ends exchanged, and says so by itself.
 impl Way {
     // The node from which a step over an arc starts.
     pub(crate) fn start(self, arc: &Arc) -> usize

@@ -50,7 +50,7 @@ fn lay_all(mut draft: Draft, tails: &[i64], heads: &[i64]) -> Result<Draft, Reco
     requires pairs { length tails.now ≡ length heads.now }
     ensures { shown_by sketch_of result ≡ laid (sketch_of draft) 2 tails.now heads.now }
 {
-    // The field is counted beside the pairs, for no lemma tells what a zip of two lists yields where it is numbered.
+    // The field is counted beside the pairs: the lemma about a zip that is numbered stands in the search, of which a record knows nothing.
     let mut field = 2;
     for (tail, head) in tails.iter().zip(heads) {
         let spot = Spot {
@@ -129,7 +129,7 @@ pub(crate) fn network_lines<W: Recorded>(
     ensures arcs { IfOk result (λ net. (net.arcs ≤ 256) × (net.arcs ≤ places)) }
 {
     let Begun { draft, nodes, arcs } = net_line::<W>(cursor, places)?;
-    // As many numbers are read as the list that is lent is long, so that no count stands beside it.
+    // As many numbers are read as the list that is lent is long; of each array the part that the first line tells is lent.
     let mut supplies = [0; MOST_NODES];
     let mut tails = [0; MOST_ARCS];
     let mut heads = [0; MOST_ARCS];

@@ -93,6 +93,7 @@ impl RecordFault {
     }
 }
 
+// Display is the library's, so no one impl serves all faults.
 impl fmt::Display for RecordFault {
     ghost output = { λ fault. Some (codes "a record is refused: " ++ refusal_text (record_refusal fault)) };
 

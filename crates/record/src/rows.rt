@@ -22,7 +22,7 @@ fn cost_line<W: Recorded + Copy>(
     ensures untouched { OnErr result (place.new ≡ place.old) }
 {
     let row = lines::row::<W>(cursor)?;
-    // The place is filled in a copy, so that a row that is refused is seen to leave it.
+    // A copy is filled, and stored once its row is accepted, so that a refused row leaves the place as it was.
     let mut cost = *place;
     let spot = Spot { line, field: None };
     cost.fill(row.as_slice())

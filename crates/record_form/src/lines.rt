@@ -107,7 +107,7 @@ pub fn row<W: Recorded>(cursor: &mut Cursor<'_>) -> Result<Row, Malformed>
     let Some(count) = W::row_length(first) else {
         return Err(Malformed { offset: start });
     };
-    // As many numbers are read as the list that is lent is long, so that no count stands beside it.
+    // As many numbers are read as the list that is lent is long, so the part is lent that the first number tells.
     let mut further = [0; MOST_FURTHER];
     let row = row_end(&mut ahead, first, &mut further[0..count - 1])?;
     cursor.at = ahead.at;

@@ -22,7 +22,7 @@ use cost::written::{Recorded, Row, Written};
 pub const MOST_PIECES: usize = 8;
 
 // Any content is a cost; one that `new` would refuse means the empty cost. Of the widths and slopes the first `count` count.
-// The numbers lie open and the arrays keep their size, since a record of a cost is plain data of which any content is a cost.
+// The numbers lie open and the arrays keep their size, since a cost is plain data of which any content is a cost.
 #[derive(Clone, Copy, Debug, Default, PartialEq, Eq)]
 pub struct Stepped {
     pub first: i64,

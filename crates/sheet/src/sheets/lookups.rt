@@ -106,7 +106,7 @@ impl Sheet {
         Ok((arc.tail + 1, arc.head + 1))
     }
 
-    // Three lines each, of which the field and the event differ.
+    // Three promises of three lines each: they differ in what is numbered, in what is read of it, and in when.
 
     // The load of an arc, while settled.
     pub fn load_of(&self, arc: i64) -> Result<i64, SheetFault>
