@@ -2,7 +2,7 @@
 use Rattle.std.proofs.Common.{◌≡◌, ℕ, ◌-◌, List, [], ◌∷◌, map, get_or, set, ℤ, refl, ap, ◌∙◌}
 use Rattle.std.proofs.lemmas.List.{map-set}
 use Rattle.cost.specs.Meaning.{Meaning, natural}
-use Rattle.network.specs.Network.{Net}
+use Rattle.network.specs.Network.{Net, Ends}
 use Rattle.network.specs.Sums.{sum}
 use Rattle.network.specs.Records.{no_node}
 use Rattle.network.specs.declared.records.Node.{Node}
@@ -56,3 +56,7 @@ module _ (b b' : Book) (same : SameNetwork b b') where
   -- opened again, a book still is the same
   pub opened_alike : SameNetwork b (opened b'.nodes b'.arcs)
   opened_alike = opened_twice b'.nodes b'.arcs ∙ same
+
+  -- ends that lie among the nodes do so in either book
+  pub ends_alike : (costs : List Meaning) → Ends (network_of b' costs) → Ends (network_of b costs)
+  ends_alike costs ends = rw (← network_alike costs) ends

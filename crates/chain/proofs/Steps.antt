@@ -47,6 +47,9 @@ supply_is_no_settle e = let z : ◌≡◌ {A = ℕ} 0 1 = cc in omega arith
 swap_is_no_settle : ◌≡◌ {A = Option Kind} (Some kind.Swap) (Some kind.Settle) → ⊥
 swap_is_no_settle e = let z : ◌≡◌ {A = ℕ} 0 1 = cc in omega arith
 
+pub nothing_is_no_settle : ◌≡◌ {A = Option Kind} None (Some kind.Settle) → ⊥
+nothing_is_no_settle e = let z : ◌≡◌ {A = ℕ} 0 1 = cc in omega arith
+
 some_is_not_none : {X : Type 0} {x : X} → ◌≡◌ {A = Option X} (Some x) None → ⊥
 some_is_not_none e = let z : ◌≡◌ {A = ℕ} 0 1 = cc in omega arith
 

@@ -16,7 +16,7 @@ use Rattle.chain.specs.declared.calls.Call.{Call}
 use Rattle.chain.specs.declared.calls.Kind.{Kind}
 use Rattle.chain.specs.declared.calls.Progress.{Progress}
 use Rattle.chain.proofs.Alike.{network_alike, settle_refusal_alike}
-use Rattle.chain.proofs.Steps.{put_in, At, one_more}
+use Rattle.chain.proofs.Steps.{put_in, At, one_more, stands_open, nothing_is_no_settle}
 
 -- what a further call sets
 set_last_more : {C : Type 0} (d : Desk C) (xs : List (Call C)) (x : Call C) → set_last d (xs ++ x ∷ []) ≡ set_by x (set_last d xs)
@@ -47,6 +47,14 @@ module _ {C : Type 0} (meaning : C → Meaning) where
       pub last : LastAccepted meaning start None seen p.last
       pub made : Made meaning seen start.book start.costs at_start b costs p
 
+    -- before the first call
+    pub reached_none : Reached [] start.book start.costs at_start
+    reached_none = record {
+      at = record { same = refl; listed = refl; stands = λ o. stands_open (network meaning start) start.book None o nothing_is_no_settle; answers = tt };
+      last = refl;
+      made = (refl, refl, refl);
+    }
+
     -- after a further call
     pub reached_more : (calls : List (Call C)) (i : ℕ) (x : Call C) → i < length calls → x ≡ get_or calls i x → (b b' : Book) (costs costs' : List C) (p q : Progress) → Sound b.nodes b.arcs
         → Reached (take i calls) b costs p → Step meaning x b costs b' costs' p q → Reached (take (i + 1) calls) b' costs' q
@@ -76,7 +84,7 @@ module _ {C : Type 0} (meaning : C → Meaning) where
       unsettled_alike =
           settle_refusal_alike d.book b reached.at.same (length costs) ∙ ap (λ (cs : List C). settle_refusal d.book.nodes d.book.arcs (length cs)) reached.at.listed
 
-      replayed : (r : Result Amounts SheetFault) → IfSome p.answer (λ a. r ≡ a) → Answers (unsettled d) (network meaning d) r → Replayed meaning start calls (record { book = b; costs = costs }) (record { last = p.last; outlook = r })
+      pub replayed : (r : Result Amounts SheetFault) → IfSome p.answer (λ a. r ≡ a) → Answers (unsettled d) (network meaning d) r → Replayed meaning start calls (record { book = b; costs = costs }) (record { last = p.last; outlook = r })
       replayed r kept answers =
           let ends = subst Ends alike (sound_ends b.nodes b.arcs (map meaning costs) sound) in
           let long = length-map d.costs meaning in
@@ -93,11 +101,11 @@ module _ {C : Type 0} (meaning : C → Meaning) where
           }
 
       -- an answer that was kept
-      replayed_kept : (r : Result Amounts SheetFault) → p.answer ≡ Some r → Replayed meaning start calls (record { book = b; costs = costs }) (record { last = p.last; outlook = r })
+      pub replayed_kept : (r : Result Amounts SheetFault) → p.answer ≡ Some r → Replayed meaning start calls (record { book = b; costs = costs }) (record { last = p.last; outlook = r })
       replayed_kept r is = replayed r (subst (λ (a : Option (Result Amounts SheetFault)). IfSome a (λ a. r ≡ a)) (sym is) refl) (subst (λ (a : Option (Result Amounts SheetFault)). IfSome a (Answers (unsettled d) (network meaning d))) is reached.at.answers)
 
       -- an answer that the book gives
-      replayed_asked : (r : Result Amounts SheetFault) → p.answer ≡ None → Answers (settle_refusal b.nodes b.arcs (length costs)) (network_of b (map meaning costs)) r → Replayed meaning start calls (record { book = b; costs = costs }) (record { last = p.last; outlook = r })
+      pub replayed_asked : (r : Result Amounts SheetFault) → p.answer ≡ None → Answers (settle_refusal b.nodes b.arcs (length costs)) (network_of b (map meaning costs)) r → Replayed meaning start calls (record { book = b; costs = costs }) (record { last = p.last; outlook = r })
       replayed_asked r is answers = replayed r (subst (λ (a : Option (Result Amounts SheetFault)). IfSome a (λ a. r ≡ a)) (sym is) tt) (subst (λ (ρ : Option SheetFault). Answers ρ (network meaning d) r) unsettled_alike (subst (λ (net : Net). Answers (settle_refusal b.nodes b.arcs (length costs)) net r) alike answers))
 
       -- an answer that was kept, or else one that the book gives

@@ -2,7 +2,7 @@
 use Rattle.std.proofs.Common.{◌≡◌, ℕ, zero, suc, ◌+◌, ◌*◌, ◌<◌, ◌≤◌, Bool, true, false, ◌⊎◌, List, length, get_or, take, ℤ, pos, ◌+ℤ◌, neg_ℤ, ◌≤ℤ◌, ◌<ℤ◌, Some, None, Option, sym, refl, ap, ◌∙◌, inl, inr, arith}
 use lib.Signed.{le_z}
 use Rattle.std.specs.List.{slice_get}
-use Rattle.std.proofs.lemmas.Int.{ints}
+use Rattle.std.proofs.lemmas.Int.{ints, by_lt_z}
 use Rattle.std.proofs.lemmas.Bool.{and_parts, and_from, cond-true, cond-false, cases_lt}
 use Rattle.std.proofs.lemmas.Option.{slice_get-get_or, slice_get_past}
 use Rattle.cost.proofs.Lists.{total_suc}
@@ -51,6 +51,13 @@ increment_some m x i e = by_low (le_z (pos m.first) x) refl
     by_low : (test : Bool) → le_z (pos m.first) x ≡ test → Increment m x i
     by_low true low = by_place (omega (arith, ints)) (cases_lt (beyond m x) (length m.increments)) (sym (cond-true (le_z (pos m.first) x) (slice_get m.increments (beyond m x)) None low) ∙ e)
     by_low false low = never (increment_at m x) i e (cond-false (le_z (pos m.first) x) (slice_get m.increments (beyond m x)) None low)
+
+-- a load of the range with no increment is the last
+pub increment_none : (m : Meaning) (x : ℤ) → InRange m x → increment_at m x ≡ None → x ≡ pos (last m)
+increment_none m x h e =
+    by_lt_z x (pos (last m))
+    (λ under. never (increment_at m x) (get_or m.increments (beyond m x) (pos 0)) (increment_is m x (beyond m x) (load_at m x h).0 (omega (arith, ints))) e)
+    (λ over. omega (arith, ints))
 
 -- a load with an increment has a next load in the range
 pub next_in_range : (m : Meaning) (x i : ℤ) → increment_at m x ≡ Some i → InRange m (x +ℤ pos 1)

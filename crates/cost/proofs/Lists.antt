@@ -33,6 +33,11 @@ pub nth_counted : {X : Type 0} (f : ℕ → X) (n k : ℕ) → k < n → slice_g
 nth_counted f n k h =
     slice_get-get_or (map f (range_with_len 0 n)) k (f 0) (rw length-map-range_with_len h) ∙ ap Some (get_or-map-range_with_len f 0 n k k (f 0) h (omega arith))
 
+-- the sum of two lists, one after the other
+pub total_append : (xs ys : List ℤ) → total (xs ++ ys) ≡ total xs +ℤ total ys
+total_append [] ys = omega (arith, ints)
+total_append (x ∷ xs) ys = ap (λ (n : ℤ). x +ℤ n) (total_append xs ys) ∙ omega (arith, ints)
+
 pub total_suc : (xs : List ℤ) (k : ℕ) → k < length xs → total (take (suc k) xs) ≡ total (take k xs) +ℤ get_or xs k (pos 0)
 total_suc [] k h = absurd (omega arith)
 total_suc (x ∷ xs) zero h = omega (arith, ints)

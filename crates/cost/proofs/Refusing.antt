@@ -1,5 +1,5 @@
 -- What it says that no condition of several refuses, and that a number is not refused by its limits.
-use Rattle.std.proofs.Common.{◌≡◌, ℕ, ◌<◌, Bool, true, false, cond, not, ◌&&◌, List, length, get_or, ℤ, pos, is_some, IfOk, Some, None, Option, Result, sym, refl, subst, arith}
+use Rattle.std.proofs.Common.{◌≡◌, ℕ, ◌<◌, Bool, true, false, cond, not, ◌&&◌, List, length, get_or, ℤ, pos, is_some, is_ok, IfOk, Some, None, Option, Result, sym, refl, subst, arith}
 use lib.Signed.{le_z}
 use Rattle.std.specs.Option.{option_map}
 use Rattle.std.specs.Result.{result_err}
@@ -52,6 +52,11 @@ all_inside limits before xs e k h =
 pub not_both : (a b : Bool) → a && b ≡ false → a ≡ true → b ≡ false
 not_both true b e h = e
 not_both false b e h = absurd (let z : ◌≡◌ {A = ℕ} 0 1 = cc in omega arith)
+
+-- a call is accepted exactly where it has no refusal
+pub accepts : {T F : Type 0} (r : Option F) (value : T) → is_ok (unless r value) ≡ not (is_some r)
+accepts None value = refl
+accepts (Some f) value = refl
 
 pub no_refusal : {F : Type 0} (r : Option F) → true ≡ not (is_some r) → r ≡ None
 no_refusal None e = refl

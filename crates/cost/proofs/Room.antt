@@ -3,7 +3,7 @@ use Rattle.std.proofs.Common.{◌≡◌, ℕ, zero, suc, refl, ◌+◌, ◌<◌,
 use Rattle.std.proofs.lemmas.List.{append_assoc, append-nil, length-take, length_push, take_all, take-append-le, take_more, take_more_set}
 
 -- a front of a front with more behind it
-take_front : {X : Type 0} (n : ℕ) (xs ys : List X) → take n (take n xs ++ ys) ≡ take n (xs ++ ys)
+pub take_front : {X : Type 0} (n : ℕ) (xs ys : List X) → take n (take n xs ++ ys) ≡ take n (xs ++ ys)
 take_front {X} zero xs ys = refl
 take_front {X} (suc n) [] ys = refl
 take_front {X} (suc n) (x ∷ xs) ys = ap (λ (zs : List X). x ∷ zs) (take_front n xs ys)

@@ -106,7 +106,7 @@ module _ (graph : Graph) (spans : List Span) (start : List ℤ) (labels : List (
     abbrev before : Label
     before = found.0
 
-    step : Stepped net (low_of spans) (high_of spans) (numbers start) node pushing.label before s
+    pub step : Stepped net (low_of spans) (high_of spans) (numbers start) node pushing.label before s
     step = found.2
 
     pub shorter : order_of (label_of labels s.from) < order_of (label_of labels node)

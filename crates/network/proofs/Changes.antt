@@ -1,10 +1,12 @@
--- How the surpluses change with the load of one arc, and what is the same at the same loads or prices.
-use Rattle.std.proofs.Common.{◌≡◌, ℕ, ◌<◌, eqb, List, get_or, set, ℤ, ◌+ℤ◌, ◌-ℤ◌, ◌*ℤ◌, sym, ap, ◌∙◌, arith}
+-- How the surpluses and the charge change with the load of one arc, and what is the same at the same loads or prices.
+use Rattle.std.proofs.Common.{◌≡◌, ℕ, ◌<◌, eqb, List, get_or, set, ℤ, pos, ◌+ℤ◌, ◌-ℤ◌, ◌*ℤ◌, Some, sym, ap, ◌∙◌, inl, inr, arith}
 use Rattle.std.proofs.lemmas.Int.{ints}
 use Rattle.std.proofs.lemmas.List.{get_or-set_other}
-use Rattle.cost.specs.Meaning.{amount_at}
+use Rattle.std.proofs.lemmas.Bool.{cases_eq}
+use Rattle.cost.specs.Meaning.{InRange, amount_at, increment_at}
+use Rattle.cost.proofs.Amount.{amount_next}
 use Rattle.network.specs.Sums.{sum, counted}
-use Rattle.network.specs.Network.{Net, Ends, surplus, charge, tension, least, floor}
+use Rattle.network.specs.Network.{Net, Ends, surplus, Routing, charge, tension, least, floor}
 use Rattle.network.proofs.Counted.{counted_minus}
 use Rattle.network.proofs.Sums.{AlikeBut, sum_same, sum_changed}
 
@@ -50,3 +52,18 @@ module _ (net : Net) (load other : ℕ → ℤ) (a : ℕ) (within : a < net.arcs
   pub surplus_changed : (v : ℕ) → surplus net other v ≡ surplus net load v +ℤ counted (eqb (net.head a) v) (other a -ℤ load a) -ℤ counted (eqb (net.tail a) v) (other a -ℤ load a)
   surplus_changed v =
       omega (arith, ints, end_changed net.arcs a v net.head load other within alike, end_changed net.arcs a v net.tail load other within alike)
+
+  pub charge_changed : charge net other ≡ charge net load +ℤ (amount_at (net.cost a) (other a) -ℤ amount_at (net.cost a) (load a))
+  charge_changed =
+      sum_changed net.arcs a (λ b. amount_at (net.cost b) (load b)) (λ b. amount_at (net.cost b) (other b)) within (λ b h away. ap (amount_at (net.cost b)) (alike b h away))
+
+  -- one request more adds the increment; read from `other` to `load`, one request fewer takes it off
+  pub charge_step : (i : ℤ) → other a ≡ load a +ℤ pos 1 → increment_at (net.cost a) (load a) ≡ Some i → charge net other ≡ charge net load +ℤ i
+  charge_step i more e = omega (arith, ints, charge_changed, ap (amount_at (net.cost a)) more, amount_next (net.cost a) (load a) i e)
+
+  pub routing_changed : Routing net load → InRange (net.cost a) (other a) → Routing net other
+  routing_changed routing ranged b h =
+      elim (cases_eq b a) [
+        | inl at ↦ rw at ranged
+        | inr away ↦ rw (← alike b h away) (routing b h)
+      ]

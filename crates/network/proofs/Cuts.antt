@@ -1,11 +1,11 @@
 -- What crosses the border of a set of nodes, and why an over-full set bars every routing.
-use Rattle.std.proofs.Common.{◌≡◌, ℕ, ◌<◌, Bool, true, ℤ, pos, ◌-ℤ◌, ◌*ℤ◌, ◌≤ℤ◌, ◌<ℤ◌, refl, ap, ◌∙◌, arith}
+use Rattle.std.proofs.Common.{◌≡◌, ℕ, ◌<◌, Bool, true, false, not, ◌&&◌, ℤ, pos, ◌-ℤ◌, ◌*ℤ◌, ◌≤ℤ◌, ◌<ℤ◌, sym, refl, ap, ◌∙◌, arith}
 use lib.IntN.{*ℤ_comm}
-use Rattle.std.proofs.lemmas.Int.{ints}
-use Rattle.std.proofs.lemmas.Bool.{cond-true}
+use Rattle.std.proofs.lemmas.Int.{ints, by_lt_z}
+use Rattle.std.proofs.lemmas.Bool.{false≢true, cond-true}
 use Rattle.cost.specs.Meaning.{last}
 use Rattle.network.specs.Sums.{sum, counted}
-use Rattle.network.specs.Network.{Net, Ends, surplus, leaves, enters, sum_marked}
+use Rattle.network.specs.Network.{Net, Ends, surplus, Routing, leaves, enters, sum_marked, Closed}
 use Rattle.network.specs.Theorems.{Conservation, OverFullBars, ClosedIsOverFull}
 use Rattle.network.proofs.Counted.{counted_none, counted_same, counted_order, times_counted, across}
 use Rattle.network.proofs.Sums.{sum_same, sum_order, sum_minus, sum_none, sum_covers}
@@ -65,3 +65,19 @@ sum_marked_above net marked f p within at above each =
       sum_covers net.nodes p (λ v. counted (marked v) (f v)) within (λ v h. omega (arith, ints, counted_none (marked v), counted_order (marked v) (pos 0) (f v) (each v h))),
       cond-true (marked p) (f p) (pos 0) at,
     )
+
+-- a set that no step leads out of, neither along an arc below its last load nor against an arc above its first load, is closed
+pub closed_from_steps : (net : Net) (load : ℕ → ℤ) (marked : ℕ → Bool) → Routing net load
+    → ((a : ℕ) → a < net.arcs → marked (net.tail a) ≡ true → load a <ℤ pos (last (net.cost a)) → marked (net.head a) ≡ true)
+    → ((a : ℕ) → a < net.arcs → marked (net.head a) ≡ true → pos (net.cost a).first <ℤ load a → marked (net.tail a) ≡ true)
+    → Closed net load marked
+closed_from_steps net load marked routing along against =
+    record {
+      leaving = λ a h crosses. held (marked (net.tail a)) (marked (net.head a)) (load a) (pos (last (net.cost a))) crosses (along a h) (routing a h).1;
+      entering = λ a h crosses. sym (held (marked (net.head a)) (marked (net.tail a)) (pos (net.cost a).first) (load a) crosses (against a h) (routing a h).0);
+    }
+  where
+    held : (from to : Bool) (x y : ℤ) → (from && not to) ≡ true → (from ≡ true → x <ℤ y → to ≡ true) → x ≤ℤ y → x ≡ y
+    held true true x y crosses step order = absurd (false≢true crosses)
+    held true false x y crosses step order = by_lt_z x y (λ under. absurd (false≢true (step refl under))) (λ over. omega (arith, ints))
+    held false to x y crosses step order = absurd (false≢true crosses)

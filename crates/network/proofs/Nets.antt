@@ -2,11 +2,11 @@
 use Rattle.std.proofs.Common.{◌≡◌, ℕ, ◌<◌, true, not, List, length, ℤ, pos, nat_abs, None, ap, arith}
 use Rattle.std.proofs.lemmas.Int.{ints}
 use Rattle.std.proofs.lemmas.Bool.{eqb-true, not-false}
-use Rattle.cost.specs.Meaning.{Meaning, in_range}
+use Rattle.cost.specs.Meaning.{Meaning, in_range, Lawful}
 use Rattle.cost.proofs.Amount.{range_from_test}
 use Rattle.cost.proofs.FirstPlace.{first_place_never}
 use Rattle.network.specs.Sums.{sum}
-use Rattle.network.specs.Network.{Net, Ends, surplus, Meets, charge}
+use Rattle.network.specs.Network.{Net, Ends, Convex, surplus, Meets, charge}
 use Rattle.network.specs.Records.{numbers, cost_of, net_of, Sound, Ranged, out_of_range, is_zero, unmet, amount_of, amounts}
 use Rattle.network.specs.declared.records.Node.{Node}
 use Rattle.network.specs.declared.records.Arc.{Arc}
@@ -26,6 +26,10 @@ balanced_if_none net load none v h =
 module _ (nodes : List Node) (arcs : List Arc) (costs : List Meaning) where
   pub sound_ends : Sound nodes arcs → Ends (net_of nodes arcs costs)
   sound_ends sound = record { tails = sound.tails; heads = sound.heads }
+
+  -- a network of lawful costs is convex
+  pub lawful_convex : ((a : ℕ) → a < length arcs → Lawful (cost_of costs a)) → Convex (net_of nodes arcs costs)
+  lawful_convex lawful a h = (lawful a h).convex
 
   pub charge_is : (loads : List ℤ) → length loads ≡ length arcs → amounts costs loads ≡ charge (net_of nodes arcs costs) (numbers loads)
   charge_is loads loaded = ap (λ n. sum n (amount_of costs loads)) loaded

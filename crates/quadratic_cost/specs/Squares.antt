@@ -1,5 +1,5 @@
 -- The quadratic cost keeps the four laws, and answers its increments.
-use Rattle.std.specs.Prelude.{◌≡◌, ℕ, ◌+◌, ◌-◌, ◌*◌, ◌<◌, ◌≤◌, true, false, not, List, [], ◌∷◌, length, ℤ, pos, negsuc, ◌+ℤ◌, ◌-ℤ◌, ◌*ℤ◌, ◌≤ℤ◌, ◌<ℤ◌, is_some, IfOk, Some, None, Option, Result, int_le, int_lt, slice_index_or, refl}
+use Rattle.std.specs.Prelude.{◌≡◌, ℕ, ◌+◌, ◌-◌, ◌*◌, ◌<◌, ◌≤◌, true, false, cond, not, List, [], ◌∷◌, length, ℤ, pos, negsuc, ◌+ℤ◌, ◌-ℤ◌, ◌*ℤ◌, ◌≤ℤ◌, ◌<ℤ◌, is_some, IfOk, Some, None, Option, Result, int_le, int_lt, slice_index_or, refl}
 use Rattle.std.proofs.Common.{sym, ◌∙◌, ap, arith, mul-le-mul_left, mul-le-mul_right}
 use Rattle.std.specs.Int.Signed.{le_z_yes}
 use Rattle.std.specs.Option.{option_map}
@@ -7,9 +7,10 @@ use Rattle.std.specs.Result.{result_err}
 use Rattle.std.proofs.lemmas.List.FromFn.{length-map-range_with_len, get_or-map-range_with_len}
 use Rattle.std.proofs.lemmas.Int.{ints}
 use Rattle.cost.specs.Meaning.{Meaning, empty_cost, natural, Lawful, last, increment_at, Between}
-use Rattle.cost.specs.Places.{kept_or, unless}
+use Rattle.cost.specs.Places.{or_else, kept_or, unless}
 use Rattle.cost.specs.Limits.{outside, load_limits, increment_limits, square_limits}
 use Rattle.quadratic_cost.specs.Quadratic.{quadratic_increment, quadratic_outside, quadratic_meaning, quadratic_refusal, quadratic_content, steep, quadratic_row, quadratic_row_refusal, quadratic_row_meaning}
+use Rattle.cost.specs.declared.numbers.NumberFault.{NumberFault}
 use Rattle.cost.specs.declared.refusals.CostFault.{CostFault}
 use Rattle.quadratic_cost.specs.declared.quadratic.Quadratic.{Quadratic}
 use Rattle.cost.specs.declared.refusals.CostFault.TheVariants.{Number, Steep}
@@ -88,6 +89,10 @@ content_lawful q = go (quadratic_refusal q.a q.b q.c) refl
     go : (r : Option CostFault) → quadratic_refusal q.a q.b q.c ≡ r → Lawful (kept_or empty_cost r (quadratic_meaning q.a q.b q.c))
     go None e = let k = keeps q.a q.b q.c e in kept_lawful q.a q.b q.c k.0 k.1
     go (Some f) e = empty_lawful
+
+-- once its numbers fit, only a last increment that is too steep refuses a quadratic cost
+pub refused_by_steep : (a b c : ℤ) → quadratic_outside a b c ≡ None → quadratic_refusal a b c ≡ cond (steep a b c) (Some Steep) None
+refused_by_steep a b c e = ap (λ (o : Option NumberFault). or_else (option_map Number o) (cond (steep a b c) (Some Steep) None)) e
 
 pub made_means : (q : Quadratic) → quadratic_refusal q.a q.b q.c ≡ None → quadratic_content q ≡ quadratic_meaning q.a q.b q.c
 made_means q e = ap (λ (o : Option CostFault). kept_or empty_cost o (quadratic_meaning q.a q.b q.c)) e

@@ -53,7 +53,7 @@ module _ {C : Type 0} (meaning : C → Meaning) (lawful : (cost : C) → Lawful 
   each_lawful : (a : ℕ) → a < net.arcs → Lawful (net.cost a)
   each_lawful = network_lawful meaning search.network.now lawful
 
-  order : (a : ℕ) → a < net.arcs → low_of search.spans a ≤ℤ high_of search.spans a
+  pub order : (a : ℕ) → a < net.arcs → low_of search.spans a ≤ℤ high_of search.spans a
   order a h = narrow_order (net.cost a) (each_lawful a h).convex (tension net (numbers search.prices) a) search.step (low_of search.spans a) (high_of search.spans a) search.step_from (narrow a h)
 
   -- loads that the spans hold are ready to be changed into a routing

@@ -35,6 +35,21 @@ halving_up m bar low high middle i halving above under e small = record {
   after = halving.after;
 }
 
+-- the middle is at or past the turn, or none is left to halve
+pub halving_down : (m : Meaning) (bar low high middle i : ℤ) → Halving m bar low high → low ≤ℤ middle → middle <ℤ high → increment_at m middle ≡ Some i → bar ≤ℤ i → Halving m bar low middle
+halving_down m bar low high middle i halving above under e large = record {
+  from_first = halving.from_first;
+  order = above;
+  to_last = omega (arith, ints, halving.to_last);
+  before = halving.before;
+  after = λ j f. let same : i ≡ j = cc (e, f) in omega (arith, ints);
+}
+
+pub halving_ends : (m : Meaning) (bar low high : ℤ) → Halving m bar low high → high ≤ℤ low → Turns m bar low
+halving_ends m bar low high halving done =
+    let at : high ≡ low = omega (arith, ints, halving.order) in
+    record { within = omega (arith, ints, halving.from_first, halving.to_last); before = halving.before; after = λ i e. halving.after i (ap (increment_at m) at ∙ e) }
+
 -- where an increment stands before a load or at it, the load lies in the range
 within_by : (m : Meaning) (x : ℤ) (before after : Option ℤ) → before ≡ increment_at m (x -ℤ pos 1) → after ≡ increment_at m x → (is_some before || is_some after) ≡ true → InRange m x
 within_by m x (Some i) after e f some = let place = increment_some m (x -ℤ pos 1) i (sym e) in omega (arith, ints)

@@ -71,6 +71,19 @@ pub record Walked (first : ℤ) (ws ss : List ℤ) (k : ℕ) (last least : ℤ) 
   pub sum_so : last ≡ first +ℤ total (take k ws)
   pub limit : Between (pos 0) (pos (10000 + 10000 * k)) last
 
+-- before the first piece
+pub walk_starts : (first : ℤ) (ws ss : List ℤ) → Between (pos 0) (pos 10000) first → Walked first ws ss 0 first (negsuc 999999)
+walk_starts first ws ss limits = record {
+  widths_so = λ j h. absurd (omega arith);
+  slopes_so = λ j h. absurd (omega arith);
+  rise_so = λ j h. absurd (omega arith);
+  from_low = omega (arith, ints);
+  at_start = λ e. refl;
+  at_last = λ j e. absurd (omega arith);
+  sum_so = omega (arith, ints);
+  limit = omega (arith, ints, limits);
+}
+
 module _ (first : ℤ) (ws ss : List ℤ) (k : ℕ) (last least : ℤ) (walked : Walked first ws ss k last least) where
   pub walk_on : k < length ws → Between (pos 1) (pos 10000) (get_or ws k (pos 0)) → least ≤ℤ get_or ss k (pos 0)
       → Walked first ws ss (k + 1) (last +ℤ get_or ws k (pos 0)) (get_or ss k (pos 0))

@@ -1,9 +1,9 @@
 -- The stepped cost keeps the four laws, and its pieces answer its increments.
-use Rattle.std.specs.Prelude.{◌≡◌, ℕ, zero, suc, ◌+◌, ◌-◌, ◌<◌, ◌≤◌, true, false, cond, not, ltb, List, [], ◌∷◌, ◌++◌, length, get_or, take, drop, replicate, ℤ, pos, negsuc, ◌+ℤ◌, ◌-ℤ◌, ◌≤ℤ◌, ◌<ℤ◌, is_some, Some, None, Option, ◌==◌, int_lt, nat_le, nat_lt, slice_index_or, refl}
+use Rattle.std.specs.Prelude.{◌≡◌, ℕ, zero, suc, ◌+◌, ◌-◌, ◌<◌, ◌≤◌, true, false, cond, not, ltb, List, [], ◌∷◌, ◌++◌, length, get_or, take, drop, set, replicate, ℤ, pos, negsuc, ◌+ℤ◌, ◌-ℤ◌, ◌≤ℤ◌, ◌<ℤ◌, is_some, Some, None, Option, ◌==◌, int_lt, nat_le, nat_lt, slice_index_or, slice_set, refl}
 use Rattle.std.proofs.Common.{sym, ◌∙◌, ap, add-one, arith}
 use Rattle.std.specs.List.{slice_get}
 use Rattle.std.specs.Option.{option_map}
-use Rattle.std.proofs.lemmas.List.{length-append, length-replicate, take_all, take_at, drop_more}
+use Rattle.std.proofs.lemmas.List.{append_assoc, length-append, length-replicate, length-take-le, set_at, take_all, take_at, take_more, drop_all, drop_more}
 use Rattle.std.proofs.lemmas.Int.{ints}
 use Rattle.std.proofs.lemmas.Bool.{and_parts}
 use Rattle.std.proofs.lemmas.Bool.Decides.{nat_tests}
@@ -64,6 +64,15 @@ keeps first opening ws ss e =
           let high = rw back at (not_both (nat_lt 0 (k + 1)) (int_lt (slice_index_or ss (k + 1) (pos 0)) (slice_index_or ss (k + 1 - 1) (pos 0))) here later) in
           omega (arith, ints, high);
     }
+
+-- one more number in an array of eight
+pub padded_more : (xs : List ℤ) (k : ℕ) → k < length xs → length xs ≤ 8 → slice_set (take k xs ++ replicate (8 - k) (pos 0)) k (slice_index_or xs k (pos 0)) ≡ take (k + 1) xs ++ replicate (8 - (k + 1)) (pos 0)
+padded_more xs k h few' =
+    let rest : 8 - k ≡ suc (8 - (k + 1)) = omega arith in
+    let front : length (take k xs) ≡ k = length-take-le k xs (omega arith) in
+    ap (λ (n : ℕ). set (take k xs ++ replicate n (pos 0)) k (slice_index_or xs k (pos 0))) rest
+    ∙ set_at (take k xs) (pos 0) (replicate (8 - (k + 1)) (pos 0)) (slice_index_or xs k (pos 0)) k front
+    ∙ sym (ap (λ (ys : List ℤ). ys ++ replicate (8 - (k + 1)) (pos 0)) (take_more xs k (pos 0) h) ∙ append_assoc (take k xs) (slice_index_or xs k (pos 0) ∷ []) (replicate (8 - (k + 1)) (pos 0)))
 
 -- the pieces of a made content are those that were given
 pub front_of_padded : (n : ℕ) (xs : List ℤ) → n ≡ length xs → take n (padded xs) ≡ xs
@@ -195,6 +204,10 @@ module _ (ws ss : List ℤ) (k : ℕ) (within' : k < length ws) (pairs : length 
       ap (λ (xs : List ℤ). slice_get xs (natural left)) spread_drop
       ∙ nth_past_repeated (natural w) (slice_index_or ss k (pos 0)) rest (natural left) (omega (arith, ints, natural_is left, natural_is w))
       ∙ ap (slice_get rest) (omega (arith, ints, natural_is left, natural_is w, natural_is (left -ℤ w)))
+
+-- behind all pieces there is no increment
+pub past_pieces : (ws ss : List ℤ) (k n : ℕ) → length ws ≤ k → slice_get (spread (drop k ws) (drop k ss)) n ≡ None
+past_pieces ws ss k n h = ap (λ (xs : List ℤ). slice_get (spread xs (drop k ss)) n) (drop_all k ws h)
 
 -- ---- what a content answers that its constructor would make
 

@@ -15,7 +15,7 @@ written_on into at a b room =
     ∙ paste_all into at (a ++ b) (length a + length b) (sym (length-append a b))
     ∙ ap (λ (n : ℕ). take at into ++ ((a ++ b) ++ drop (at + n) into)) (sym (length-append a b))
 
-length_written : (into : List ℕ) (at : ℕ) (bytes : List ℕ) → at + length bytes ≤ length into → length (written into at bytes) ≡ length into
+pub length_written : (into : List ℕ) (at : ℕ) (bytes : List ℕ) → at + length bytes ≤ length into → length (written into at bytes) ≡ length into
 length_written into at bytes room =
     sym (ap length (paste_all into at bytes (length bytes) refl)) ∙ length-paste into at bytes (length bytes) room (omega arith)
 

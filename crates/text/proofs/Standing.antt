@@ -8,7 +8,7 @@ use Rattle.text.specs.Theorems.{Stands}
 use Rattle.text.proofs.Runs.{field_splits}
 
 -- a byte other than 0 is one of the text
-byte_within : (text : List ℕ) (at : ℕ) → 0 < get_or text at 0 → at < length text
+pub byte_within : (text : List ℕ) (at : ℕ) → 0 < get_or text at 0 → at < length text
 byte_within text at some = go (cases_lt at (length text))
   where
     go : (at < length text) ⊎ (length text ≤ at) → at < length text
