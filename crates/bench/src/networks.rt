@@ -57,6 +57,8 @@ impl Plan {
     pub(crate) fn new(shape: Shape, nodes: usize, arcs: usize, requests: i64) -> Plan
         requires several { 1 < nodes }
         requires few { nodes ≤ 64 }
+        ensures nodes { result.nodes ≡ nodes }
+        ensures arcs { result.arcs ≡ arcs }
     {
         Plan {
             shape,

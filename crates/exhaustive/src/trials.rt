@@ -37,7 +37,7 @@ impl<C: Small> Trial<C> {
     // Makes a network and its costs, and drafts it.
     pub(crate) fn made(maker: &mut Maker) -> anyhow::Result<Trial<C>> {
         let network = Network::made(maker)?;
-        let mut sheet = Sheet::blank();
+        let mut sheet = maker.sheet;
         network.draft(&mut sheet).context("a draft is refused")?;
         let costs = random_costs::<C>(maker, network.arcs.len())?;
         Ok(Trial {

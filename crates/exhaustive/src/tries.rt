@@ -4,6 +4,7 @@ use crate::kinds::Small;
 use crate::makers::Maker;
 use crate::trials::Trial;
 use random::Random;
+use sheet::sheets::Sheet;
 use std::alloc::Global;
 
 const SEED: u64 = 7;
@@ -40,13 +41,18 @@ fn try_one<C: Small>(maker: &mut Maker, tally: &mut Tally) -> anyhow::Result<()>
     tally.count(trial.compare(maker.heap)?);
     trial.edit_cost(&mut maker.random)?;
     tally.count(trial.compare(maker.heap)?);
+    maker.sheet = trial.sheet;
     Ok(())
 }
 
 // Tries networks of one kind of cost.
 pub(crate) fn try_many<C: Small>(heap: Global, networks: u64) -> anyhow::Result<Tally> {
     let random = Random::new(SEED);
-    let mut maker = Maker { heap, random };
+    let mut maker = Maker {
+        heap,
+        random,
+        sheet: Sheet::blank(),
+    };
     let mut tally = Tally::default();
     for _ in 0..networks {
         try_one::<C>(&mut maker, &mut tally)?;

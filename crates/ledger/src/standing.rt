@@ -42,13 +42,13 @@ impl Standing {
         ensures answer { result_err result ≡ unread event self.old }
         ensures after { self.new ≡ moved event self.old }
     {
-        self.check(event)?;
-        *self = match event {
-            Event::Edit => Standing::Open,
-            Event::Settle => Standing::Settled,
-            Event::Bar => Standing::Barred,
-            Event::ReadRouting | Event::ReadMarks => *self,
-        };
+        match (*self, event) {
+            (_, Event::Edit) => *self = Standing::Open,
+            (_, Event::Settle) => *self = Standing::Settled,
+            (_, Event::Bar) => *self = Standing::Barred,
+            (Standing::Settled, Event::ReadRouting) | (Standing::Barred, Event::ReadMarks) => {}
+            (_, Event::ReadRouting | Event::ReadMarks) => return Err(SheetFault::Unread),
+        }
         Ok(())
     }
 }

@@ -1,5 +1,6 @@
 -- What the refusals of a record carry, case by case.
 use Rattle.std.specs.Prelude.{ℕ, Some, None, Option}
+use Rattle.std.specs.Option.{unwrap_or}
 use Rattle.cost.specs.Refusals.{refusal, cost_refusal}
 use Rattle.cost.specs.declared.refusals.Layer.TheVariants as layer
 use Rattle.cost.specs.declared.refusals.Refusal.{Refusal}
@@ -31,6 +32,13 @@ record_spot (Form offset) = None
 record_spot (Space needed) = None
 record_spot (Draft fault place) = Some place
 record_spot (Cost fault place) = Some place
+
+-- The line and the field as numbers, with 0 for what a refusal does not name.
+abbrev pub line_and_field : RecordFault → ℕ × ℕ
+line_and_field (Form offset) = (0, 0)
+line_and_field (Space needed) = (0, 0)
+line_and_field (Draft fault place) = (place.line, unwrap_or place.field 0)
+line_and_field (Cost fault place) = (place.line, unwrap_or place.field 0)
 
 -- Every refusal of writing is one of the record.
 abbrev pub writing_refusal : WritingFault → Refusal

@@ -1,7 +1,7 @@
 // What reading and writing a record refuse.
 ghost use Rattle.std.specs.Prelude.{◌≡◌, ◌++◌, Some, codes};
 ghost use Rattle.cost.specs.Refusals.{refusal_text};
-ghost use Rattle.record.specs.Faults.{record_refusal, record_spot, writing_refusal};
+ghost use Rattle.record.specs.Faults.{line_and_field, record_refusal, record_spot, writing_refusal};
 ghost use Rattle.record.specs.declared.faults.RecordFault.TheVariants.{Form};
 
 use cost::refusals::{CostFault, Layer, Refusal};
@@ -89,6 +89,17 @@ impl RecordFault {
         match self {
             RecordFault::Form(_) | RecordFault::Space(_) => None,
             RecordFault::Draft(_, spot) | RecordFault::Cost(_, spot) => Some(spot),
+        }
+    }
+
+    // The line and the field as a program prints them, with 0 for what the refusal does not name: form and space name
+    // neither, and a cost no field.
+    pub fn line_and_field(self) -> (usize, usize)
+        ensures { result ≡ line_and_field self }
+    {
+        match self.spot() {
+            Some(spot) => (spot.line, spot.field.unwrap_or(0)),
+            None => (0, 0),
         }
     }
 }

@@ -8,7 +8,7 @@ use cost::written::Recorded;
 use ledger::faults::SheetFault;
 use ledger::settling::Amounts;
 use quadratic_cost::quadratic::Quadratic;
-use record::faults::{RecordFault, Spot};
+use record::faults::RecordFault;
 use record::reading::read;
 use sheet::sheets::{MOST_ARCS, Sheet};
 use std::fmt;
@@ -27,18 +27,19 @@ pub(crate) enum Answer {
     Settled(Amounts, Sheet),
     // the sheet has the marks of a set that bars every routing
     Barred(Refusal, Sheet),
-    // the spot of a record, where the refusal names one
-    Refused(Refusal, Option<Spot>),
+    // the line and the field of a record, 0 where the refusal names none
+    Refused(Refusal, (usize, usize)),
 }
+
+// No line and no field of a record.
+const NOWHERE: (usize, usize) = (0, 0);
 
 // Writes the line of a refusal, with 0 for a line or a field that it does not name.
 fn write_refused<W: fmt::Write>(
     f: &mut fmt::Formatter<W>,
     refusal: Refusal,
-    spot: Option<Spot>,
+    (line, field): (usize, usize),
 ) -> fmt::Result {
-    let line = spot.map_or(0, |spot| spot.line);
-    let field = spot.and_then(|spot| spot.field).unwrap_or(0);
     writeln!(f, "refused {refusal} {line} {field}")
 }
 
@@ -84,18 +85,18 @@ impl fmt::Display for Answer {
                 write_loads(f, sheet)
             }
             Answer::Barred(refusal, sheet) => {
-                write_refused(f, *refusal, None)?;
+                write_refused(f, *refusal, NOWHERE)?;
                 write_set(f, sheet)
             }
-            Answer::Refused(refusal, spot) => write_refused(f, *refusal, *spot),
+            Answer::Refused(refusal, place) => write_refused(f, *refusal, *place),
         }
     }
 }
 
 impl From<RecordFault> for Answer {
-    // The refusal of a record, with the spot that it names.
+    // The refusal of a record, with the line and the field that it names.
     fn from(fault: RecordFault) -> Answer {
-        Answer::Refused(Refusal::from(fault), fault.spot())
+        Answer::Refused(Refusal::from(fault), fault.line_and_field())
     }
 }
 
@@ -104,7 +105,7 @@ fn settled<W: Recorded + Copy>(sheet: &mut Sheet, costs: &mut [W], calls: &[Call
     match replay(sheet, costs, calls).outlook {
         Ok(amounts) => Answer::Settled(amounts, *sheet),
         Err(fault @ SheetFault::Barred(_)) => Answer::Barred(Refusal::from(fault), *sheet),
-        Err(fault) => Answer::Refused(Refusal::from(fault), None),
+        Err(fault) => Answer::Refused(Refusal::from(fault), NOWHERE),
     }
 }
 

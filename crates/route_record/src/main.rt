@@ -9,10 +9,13 @@ mod tests;
 use answers::{MOST_BYTES, answer_to};
 use input::read_input;
 
+// One byte more than the longest record that is read, so that a longer one shows.
+const ROOM: usize = MOST_BYTES + 1;
+
 fn run(rt: &HostRuntime) -> anyhow::Result<()> {
-    // one byte more than the longest record, so that a longer one shows
-    let text = read_input(rt, MOST_BYTES as u64 + 1)?;
-    rt.print(answer_to(text.as_slice()))?;
+    let mut buffer = [0; ROOM];
+    let length = read_input(rt, &mut buffer)?;
+    rt.print(answer_to(&buffer[..length]))?;
     Ok(())
 }
 
